@@ -1,2 +1,4 @@
 pub mod KnownLemmas
 pub mod LineLemmas
+pub mod SplitLemmas
+pub mod DataLemmas

@@ -1,2 +1,6 @@
 pub mod Outside
 pub mod Lines
+pub mod Split
+pub mod Numbers
+pub mod Data
+pub mod Script

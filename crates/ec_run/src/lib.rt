@@ -1,8 +1,12 @@
 // The top call of the volume: a script in, the answers of its calls out.
 #![tactic(auto)]
 
+mod data;
+mod numbers;
 mod outside;
 mod reader;
+mod script;
+mod split;
 mod writer;
 
 pub use outside::{Failed, Sink, SinkFault, Source};

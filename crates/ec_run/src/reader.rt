@@ -7,6 +7,7 @@ ghost use Rattle.ec_run.specs.Outside.{Rose};
 ghost use Rattle.ec_run.specs.declared.reader.ReadError.TheVariants.{ReadFault, NoMemory};
 
 use crate::outside::{Failed, Source};
+use crate::split::place_of;
 use std::alloc::AllocError;
 use std::marker::Model;
 
@@ -120,7 +121,7 @@ impl LineReader {
                 return Ok(!line.is_empty());
             }
             let held = self.held();
-            let count = line_end(held);
+            let count = place_of(held, b'\n');
             let ended = count < held.len();
             if count > LONGEST - line.len() {
                 return Err(ReadError::TooLong);
@@ -141,18 +142,6 @@ impl LineReader {
     {
         self.start == self.end
     }
-}
-
-/// The place of the first newline, or how many bytes there are.
-fn line_end(held: &[u8]) -> usize
-    ensures { result ≡ position_or_len (λ b. nat_eq b 10) held.now }
-{
-    for (i, b) in held.iter().enumerate() {
-        if *b == b'\n' {
-            return i;
-        }
-    }
-    held.len()
 }
 
 impl From<Failed> for ReadError {

@@ -2,3 +2,4 @@ pub mod KnownLemmas
 pub mod LineLemmas
 pub mod SplitLemmas
 pub mod DataLemmas
+pub mod ScriptLemmas

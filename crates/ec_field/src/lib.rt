@@ -5,6 +5,7 @@
 #![tactic(auto)]
 
 mod arithmetic;
+mod build;
 mod chunk;
 
 pub use arithmetic::{add, field_laws, inv, mul, pow};

@@ -112,6 +112,28 @@ rising (suc n) p i j a b =
       | inr f ↦ rw (bricks_out n p f) (rising n p i j a (rw (count_out n p f) at b))
     ]
 
+-- a walk that goes from brick m on to brick b, the next one of the set
+
+pub count_after : (m b : ℕ) (p : ℕ → Bool) → bricks_below b p ≡ bricks_below m p → p b ≡ true → count_below (b + 1) p ≡ count_below m p + 1
+count_after m b p e t = count_more_in b p t ∙ ap (λ n. n + 1) (sym (len b p) ∙ ap length e ∙ len m p)
+
+pub entry_before : (m b : ℕ) (p : ℕ → Bool) → bricks_below b p ≡ bricks_below m p → p b ≡ true → (i : ℕ) → i < count_below m p
+    → get_or (bricks_below (b + 1) p) i 0 ≡ get_or (bricks_below m p) i 0
+entry_before m b p e t i l =
+    rw (bricks_more_in b p t, e) (get_or_append_left (bricks_below m p) (b ∷ []) 0 i (rw (len m p) l))
+
+pub entry_at : (m b : ℕ) (p : ℕ → Bool) → bricks_below b p ≡ bricks_below m p → p b ≡ true → get_or (bricks_below (b + 1) p) (count_below m p) 0 ≡ b
+entry_at m b p e t = rw (bricks_more_in b p t, e, ← len m p) (get_or-append_seam (bricks_below m p) b [] 0)
+
+pub count_grows : (m n : ℕ) (p : ℕ → Bool) → m ≤ n → count_below m p ≤ count_below n p
+count_grows m zero p l = let e : m ≡ 0 = omega arith in rw e (omega arith)
+count_grows m (suc n) p l =
+    elim (cases_eq m (suc n)) [
+      | inl e ↦ rw e (omega arith)
+      | inr d ↦ let h : count_below m p ≤ count_below n p = count_grows m n p (omega arith) in
+          elim (cases_Bool (p n)) [ inl t ↦ omega (arith, count_in n p t) | inr f ↦ omega (arith, count_out n p f) ]
+    ]
+
 -- equal sets, part of a set, one brick more, and two sets
 
 pub same : (n : ℕ) (p q : ℕ → Bool) → ((b : ℕ) → b < n → p b ≡ q b) → bricks_below n p ≡ bricks_below n q

@@ -2,6 +2,7 @@ ghost use Rattle.std.specs.Prelude.{◌≡◌, length};
 
 use super::*;
 use ec_field::{Chunk, element};
+use std::cell::Cell;
 
 fn times<F: Multiply>(f: F, a: u8, c: &Chunk) -> Chunk
     requires { F.multiplies f }
@@ -48,4 +49,17 @@ fn multiplies_each_element(rt: HostRuntime) {
         sum
     );
     assert_eq!(rt; element(&row(times_plain, &[], &[]), 0), 0);
+}
+
+/// A kernel may keep a state of its own, as a count of its calls.
+#[test]
+fn keeps_a_function_with_a_state(rt: HostRuntime) {
+    let ones = Chunk::from_elements(&[0xFF; 512]);
+    let calls = Cell::new(0u32);
+    let counting = |a: u8, c: &Chunk| {
+        calls.set(calls.get().wrapping_add(1));
+        times_plain(a, c)
+    };
+    assert_eq!(rt; element(&row(counting, &[3, 0], &[ones, ones]), 0), 0x1C);
+    assert_eq!(rt; calls.get(), 2);
 }

@@ -1,2 +1,0 @@
-pub mod Polynomial
-pub mod Inverse

@@ -1,12 +1,12 @@
 -- The rows of each algorithm, and the inverse of the rows of a set.
-use Rattle.std.proofs.Common.{◌≡◌, ℕ, zero, suc, ◌+◌, ◌-◌, ◌^◌, ◌<◌, ◌≤◌, List, length, get_or, refl, ap, sym, ◌∙◌, arith, subst}
-use Rattle.ec_field.specs.Field.{sum_below, product, power, kronecker, IsByte}
-use Rattle.ec_field.specs.Code.{plain_entry, IsRow}
+use Rattle.std.proofs.Common.{◌≡◌, ℕ, zero, suc, ◌+◌, ◌-◌, ◌<◌, ◌≤◌, List, length, refl, sym, ◌∙◌, arith}
+use Rattle.ec_field.specs.Field.{sum_below, product}
+use Rattle.ec_field.specs.Code.{plain_entry}
 use Rattle.ec_field.proofs.Powers.{power_is_byte}
 use Rattle.ec_attr.specs.Bricks.{bricks}
 use Rattle.ec_matrix.specs.Polynomial.{value, basis, master}
-use Rattle.ec_matrix.specs.Inverse.{IsByteRow, AreRows, cell, IsInverse}
-use Rattle.ec_matrix.proofs.Matrices.{ByteRow, ByteMatrix, times, IsIdentity, times_same, times_is_byte, row_times_is_byte, times_back, only_row, changed_right, changed_left}
+use Rattle.ec_matrix.specs.Inverse.{IsByteRow, cell, IsInverse}
+use Rattle.ec_matrix.proofs.Matrices.{ByteRow, ByteMatrix, times, times_same, times_is_byte, row_times_is_byte, times_back, only_row, changed_right, changed_left}
 use Rattle.ec_matrix.proofs.Values.{value_by_powers}
 use Rattle.ec_matrix.proofs.Roots.{IsPoints, powers, bases, powers_are_bytes, bases_are_bytes, basis_is_byte, powers_times_bases, bases_times_powers}
 use Rattle.ec_matrix.proofs.Steps.{column_entry}

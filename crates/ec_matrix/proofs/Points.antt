@@ -1,7 +1,7 @@
 -- The points of bricks.
-use Rattle.std.proofs.Common.{◌≡◌, ℕ, ◌+◌, ◌^◌, ◌<◌, ◌≤◌, List, length, get_or, ◌⊎◌, inl, inr, refl, ap, sym, ◌∙◌, arith}
+use Rattle.std.proofs.Common.{◌≡◌, ℕ, ◌+◌, ◌<◌, ◌≤◌, length, get_or, inl, inr, arith}
 use Rattle.std.proofs.lemmas.Bool.{cases_order}
-use Rattle.ec_attr.specs.Bricks.{is_in, bricks, bricks_below, count_below}
+use Rattle.ec_attr.specs.Bricks.{is_in, bricks, count_below}
 use Rattle.ec_attr.proofs.Sets.{len, each, rising}
 use Rattle.ec_matrix.proofs.Roots.{IsPoints}
 

@@ -1,13 +1,13 @@
 -- A polynomial with as many roots as coefficients is 0, and the polynomials with given roots.
-use Rattle.std.proofs.Common.{◌≡◌, ℕ, zero, suc, ◌+◌, ◌-◌, ◌^◌, ◌<◌, ◌⊎◌, inl, inr, refl, ap, sym, ◌∙◌, arith, lit<, add-one}
+use Rattle.std.proofs.Common.{◌≡◌, ℕ, zero, suc, ◌-◌, ◌<◌, inl, inr, refl, ap, sym, ◌∙◌, arith, lit<}
 use Rattle.std.specs.Prelude.{bit_xor}
 use Rattle.std.specs.Int.Bits.{xor_zero_l, xor_zero_r, xor_self}
-use Rattle.std.proofs.lemmas.Bool.{cases_eq, cases_lt}
+use Rattle.std.proofs.lemmas.Bool.{cases_eq}
 use Rattle.std.proofs.lemmas.Nat.{xor_lt}
-use Rattle.ec_field.specs.Field.{sum_below, product, power, kronecker, IsByte}
+use Rattle.ec_field.specs.Field.{product, power, kronecker, IsByte}
 use Rattle.ec_field.proofs.Products.{product-zero_left, product-zero_right, product_assoc, product_comm, one_product, product_is_byte}
 use Rattle.ec_field.proofs.Powers.{power_inverts, power_is_byte}
-use Rattle.ec_matrix.specs.Polynomial.{value, quotient, shifted, times_root, master, basis}
+use Rattle.ec_matrix.specs.Polynomial.{value, quotient, times_root, master, basis}
 use Rattle.ec_matrix.proofs.Matrices.{ByteRow, ByteMatrix, IsIdentity, SendsNoneToZero, same_from_xor, kronecker_same, kronecker_other, kronecker_is_byte, left_from_right}
 use Rattle.ec_matrix.proofs.Values.{value_none, value_suc, value_is_byte, value_scaled, value_by_powers, value_times_root, value_quotient}
 

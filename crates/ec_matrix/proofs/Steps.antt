@@ -1,14 +1,14 @@
 -- One step of each loop over polynomials, rows and columns.
-use Rattle.std.proofs.Common.{◌≡◌, ◌≢◌, ℕ, zero, suc, ◌+◌, ◌-◌, ◌^◌, ◌<◌, ◌≤◌, List, [], ◌∷◌, length, get_or, inl, inr, refl, ap, sym, ◌∙◌, arith, lit<, add-one}
-use Rattle.std.specs.Prelude.{bit_xor, slice_set, replicate, nat_eq, if◌then◌else◌}
+use Rattle.std.proofs.Common.{◌≡◌, ◌≢◌, ℕ, zero, suc, ◌+◌, ◌-◌, ◌<◌, ◌≤◌, List, [], ◌∷◌, length, get_or, inl, inr, refl, ap, sym, ◌∙◌, arith, add-one}
+use Rattle.std.specs.Prelude.{slice_set, replicate, nat_eq, if◌then◌else◌}
 use Rattle.std.proofs.lemmas.Bool.{cases_eq, cases_lt, cond-true, cond-false, eq-eqb, ne_eqb}
 use Rattle.std.proofs.lemmas.List.{get_or-set_same, get_or-set_other, get_or-replicate, length-replicate, get_or_past, length-set}
-use Rattle.ec_field.specs.Field.{product, power, kronecker}
+use Rattle.ec_field.specs.Field.{product, power}
 use Rattle.ec_field.specs.Code.{plain_entry}
 use Rattle.ec_field.proofs.Powers.{power-suc}
 use Rattle.ec_field.proofs.Tables.{agree_at}
-use Rattle.ec_matrix.specs.Polynomial.{value, quotient, shifted, times_root, master, basis}
-use Rattle.ec_matrix.proofs.Values.{value_ext, value_suc}
+use Rattle.ec_matrix.specs.Polynomial.{value, quotient, times_root, master, basis}
+use Rattle.ec_matrix.proofs.Values.{value_ext}
 use Rattle.ec_matrix.specs.Inverse.{cell}
 use Rattle.ec_matrix.proofs.Matrices.{kronecker_other}
 use Rattle.ec_matrix.proofs.Roots.{master_none, master_suc}

@@ -1,13 +1,13 @@
 -- Values of polynomials.
-use Rattle.std.proofs.Common.{◌≡◌, ℕ, zero, suc, ◌+◌, ◌-◌, ◌^◌, ◌<◌, refl, ap, sym, ◌∙◌, arith, lit<, add-one}
+use Rattle.std.proofs.Common.{◌≡◌, ℕ, zero, suc, ◌+◌, ◌-◌, ◌<◌, refl, ap, sym, ◌∙◌, arith, lit<, add-one}
 use Rattle.std.specs.Prelude.{bit_xor}
-use Rattle.std.specs.Int.Bits.{xor_assoc, xor_zero_l, xor_zero_r, xor_self}
+use Rattle.std.specs.Int.Bits.{xor_assoc, xor_zero_l, xor_zero_r}
 use Rattle.std.proofs.lemmas.Nat.{xor_lt, xor_comm}
 use Rattle.ec_field.specs.Field.{sum_below, product, power, IsByte}
 use Rattle.ec_field.proofs.Sums.{sum_none, sum_suc, sum_ext, xor_cancel}
-use Rattle.ec_field.proofs.Products.{product-left, product-right, product-sum_right, product-zero_left, product-zero_right, product_assoc, product_comm, one_product, product_is_byte}
+use Rattle.ec_field.proofs.Products.{product-left, product-right, product-sum_right, product-zero_right, product_assoc, product_comm, one_product, product_is_byte}
 use Rattle.ec_field.proofs.Powers.{power-zero, power-suc, power_is_byte}
-use Rattle.ec_matrix.specs.Polynomial.{value, quotient, shifted, times_root}
+use Rattle.ec_matrix.specs.Polynomial.{value, quotient, times_root}
 use Rattle.ec_matrix.proofs.Matrices.{ByteRow}
 
 pub value_none : (c : ℕ → ℕ) (v : ℕ) → value 0 c v ≡ 0

@@ -6,6 +6,8 @@
 
 mod interpolation;
 mod polynomial;
+#[cfg(test)]
+mod tests;
 mod vandermonde;
 
 pub use interpolation::{Rows, inverse};

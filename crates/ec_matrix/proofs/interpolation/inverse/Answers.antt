@@ -1,4 +1,4 @@
-use Rattle.std.proofs.Common.{◌≡◌, ℕ, ◌+◌, ◌<◌, ◌∙◌, get_or, ap, sym, arith}
+use Rattle.std.proofs.Common.{◌≡◌, ℕ, ◌<◌, ◌∙◌, get_or, arith}
 use Rattle.ec_matrix.specs.Polynomial.{master}
 use Rattle.ec_matrix.proofs.Steps.{entry, column_entry, column_of_basis, column_of_values, column_ext, master_ext, with_column}
 use Rattle.ec_matrix.proofs.Points.{point}

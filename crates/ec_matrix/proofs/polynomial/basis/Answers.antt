@@ -1,4 +1,4 @@
-use Rattle.std.proofs.Common.{◌∙◌, ap, arith, get_or}
+use Rattle.std.proofs.Common.{◌∙◌, ap, arith}
 use Rattle.ec_field.specs.Field.{product, power}
 use Rattle.ec_matrix.proofs.Steps.{written, long, unwritten, scaled_basis, entry}
 use Rattle.ec_matrix.proofs.polynomial.basis.Goals as goal

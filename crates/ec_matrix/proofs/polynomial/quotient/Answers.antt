@@ -1,4 +1,4 @@
-use Rattle.std.proofs.Common.{◌∙◌, ◌≡◌, ◌+◌, refl, ap, sym, arith, get_or, add-one}
+use Rattle.std.proofs.Common.{◌∙◌, ◌≡◌, ◌+◌, refl, ap, sym, arith, add-one}
 use Rattle.ec_matrix.specs.Polynomial.{value, quotient}
 use Rattle.ec_matrix.proofs.Values.{value_none, value_more}
 use Rattle.ec_matrix.proofs.Steps.{written, long, entry}

@@ -1,4 +1,4 @@
-use Rattle.std.proofs.Common.{◌+◌, get_or, arith}
+use Rattle.std.proofs.Common.{◌+◌, arith}
 use Rattle.ec_matrix.specs.Polynomial.{value}
 use Rattle.ec_matrix.proofs.Steps.{written, long, entry}
 use Rattle.ec_matrix.proofs.polynomial.values.Goals as goal

@@ -1,7 +1,5 @@
-use Rattle.std.proofs.Common.{get_or, subst, sym}
-use Rattle.ec_matrix.specs.Inverse.{IsByteRow}
 use Rattle.ec_matrix.proofs.Steps.{entry}
-use Rattle.ec_matrix.proofs.Algorithms.{plain_row, plain_row_only, systematic_row, systematic_row_only}
+use Rattle.ec_matrix.proofs.Algorithms.{systematic_row, systematic_row_only}
 use Rattle.ec_matrix.proofs.vandermonde.row.Goals as goal
 
 pub returns-else-algorithm-eq0-clause-row : goal.returns-else-algorithm-eq0-clause-row

@@ -1,4 +1,4 @@
-use Rattle.std.proofs.Common.{◌≡◌, ℕ, ◌+◌, ◌∙◌, ap, arith}
+use Rattle.std.proofs.Common.{arith}
 use Rattle.ec_matrix.proofs.Algorithms.{systematic_entry}
 use Rattle.ec_matrix.proofs.Steps.{written, unwritten, long, systematic_value}
 use Rattle.ec_matrix.proofs.vandermonde.systematic.Goals as goal

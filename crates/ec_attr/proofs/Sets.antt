@@ -1,5 +1,5 @@
 -- Lemmas on the bricks that pass a test, their list and their count.
-use Rattle.std.proofs.Common.{◌≡◌, ◌≢◌, ℕ, zero, suc, ◌+◌, ◌*◌, ◌^◌, ◌<◌, ◌≤◌, Bool, true, false, ◌&&◌, ◌||◌, not, ◌%◌, ◌/◌, ◌-◌, bit_or, bit_and, List, [], ◌∷◌, ◌++◌, length, get_or, nat_eq, ◌⊎◌, inl, inr, refl, sym, ap, ◌∙◌, cond, arith, w32, add-one, length-append, append-nil}
+use Rattle.std.proofs.Common.{◌≡◌, ◌≢◌, ℕ, zero, suc, ◌+◌, ◌*◌, ◌^◌, ◌<◌, ◌≤◌, Bool, true, false, ◌&&◌, ◌||◌, not, ◌%◌, ◌/◌, ◌-◌, bit_or, bit_and, List, [], ◌∷◌, ◌++◌, length, get_or, nat_eq, ◌⊎◌, inl, inr, refl, sym, ap, ◌∙◌, cond, arith, w32, add-one, add-zero, if◌then◌else◌, length-append, append-nil}
 use Rattle.std.proofs.lemmas.Bool.{cases_Bool, cond-true, cond-false, cases_eq, cases_lt, and_parts, and_from, and_left, and_right, or_left, eq-eqb, ne_eqb}
 use Rattle.std.proofs.lemmas.Bool.Decides.{nat_tests}
 use Rattle.std.proofs.lemmas.List.{get_or_append_left}
@@ -175,6 +175,29 @@ one_more (suc n) b p q l f t e =
           ]
     ]
 
+others_kept : (p q : ℕ → Bool) (b : ℕ) → ((c : ℕ) → q c ≡ (nat_eq c b || p c)) → (c : ℕ) → c ≢ b → p c ≡ q c
+others_kept p q b e c d = sym (e c ∙ rw (ne_eqb c b d) refl)
+
+pub added : (n b : ℕ) (p q : ℕ → Bool) → b < n → ((c : ℕ) → q c ≡ (nat_eq c b || p c)) → count_below n q ≡ count_below n p + (if p b then 0 else 1)
+added n b p q l e =
+    let is_in : q b ≡ true = e b ∙ or_left (nat_eq b b) (p b) (eq-eqb b b refl) in
+    elim (cases_Bool (p b)) [
+      | inl t ↦ sym (same_count n p q (λ c k. elim (cases_eq c b) [ inl s ↦ rw s (t ∙ sym is_in) | inr d ↦ others_kept p q b e c d ]))
+          ∙ sym (rw t (add-zero (count_below n p)))
+      | inr f ↦ one_more n b p q l f is_in (λ c k. others_kept p q b e c) ∙ sym (rw f refl)
+    ]
+
+others_left : (p q : ℕ → Bool) (b : ℕ) → ((c : ℕ) → q c ≡ (not (nat_eq c b) && p c)) → (c : ℕ) → c ≢ b → q c ≡ p c
+others_left p q b e c d = e c ∙ rw (ne_eqb c b d) refl
+
+pub removed : (n b : ℕ) (p q : ℕ → Bool) → b < n → ((c : ℕ) → q c ≡ (not (nat_eq c b) && p c)) → count_below n q + (if p b then 1 else 0) ≡ count_below n p
+removed n b p q l e =
+    let is_out : q b ≡ false = e b ∙ rw (eq-eqb b b refl) refl in
+    elim (cases_Bool (p b)) [
+      | inl t ↦ rw t (sym (one_more n b q p l is_out t (λ c k. others_left p q b e c)))
+      | inr f ↦ rw f (add-zero (count_below n q) ∙ same_count n q p (λ c k. elim (cases_eq c b) [ inl s ↦ rw s (is_out ∙ sym f) | inr d ↦ others_left p q b e c d ]))
+    ]
+
 overlap : (n : ℕ) (p q : ℕ → Bool) → count_below n p + count_below n q ≤ n + count_below n (λ b. p b && q b)
 overlap zero p q = omega (arith, count_none p, count_none q)
 overlap (suc n) p q =
@@ -207,7 +230,7 @@ pub bits : (a b : ℕ) → a < 2 ^ 31 → b < 2 ^ 31 → ((c : ℕ) → c < 31 �
 bits a b l r e = same_from_bits_below 31 a b l r (λ i k. bit_by_test (bit_at a i) (bit_at b i) (bit_at-lt a i) (bit_at-lt b i) (e i k))
 
 pub laws : BrickLaws
-laws = record { len = len; most = most; each = each; place = place; rising = rising; same = same; same_count = same_count; part = part; one_more = one_more; share = share; bits = bits }
+laws = record { len = len; most = most; each = each; place = place; rising = rising; same = same; same_count = same_count; part = part; one_more = one_more; added = added; removed = removed; share = share; bits = bits }
 
 -- a brick that is put in or taken out
 

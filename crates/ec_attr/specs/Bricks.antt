@@ -1,5 +1,5 @@
 -- Sets of bricks, each given by the number of its bits or by a test.
-use Rattle.std.specs.Prelude.{◌≡◌, ◌≢◌, ℕ, zero, suc, ◌+◌, ◌*◌, ◌^◌, ◌<◌, ◌≤◌, Bool, true, false, List, [], ◌∷◌, ◌++◌, length, slice_index, nat_eq, if◌then◌else◌}
+use Rattle.std.specs.Prelude.{◌≡◌, ◌≢◌, ℕ, zero, suc, ◌+◌, ◌*◌, ◌^◌, ◌<◌, ◌≤◌, ◌&&◌, ◌||◌, not, Bool, true, false, List, [], ◌∷◌, ◌++◌, length, slice_index, nat_eq, if◌then◌else◌}
 use Rattle.std.specs.Int.{bit_at}
 
 -- whether a brick is in the set of these bits
@@ -33,6 +33,9 @@ pub record BrickLaws : Type 0 where
   pub same_count : (n : ℕ) (p q : ℕ → Bool) → ((b : ℕ) → b < n → p b ≡ q b) → count_below n p ≡ count_below n q
   pub part : (n : ℕ) (p q : ℕ → Bool) → ((b : ℕ) → b < n → p b ≡ true → q b ≡ true) → count_below n p ≤ count_below n q
   pub one_more : (n b : ℕ) (p q : ℕ → Bool) → b < n → p b ≡ false → q b ≡ true → ((c : ℕ) → c < n → c ≢ b → p c ≡ q c) → count_below n q ≡ count_below n p + 1
+  -- brick b put in, and taken out
+  pub added : (n b : ℕ) (p q : ℕ → Bool) → b < n → ((c : ℕ) → q c ≡ (nat_eq c b || p c)) → count_below n q ≡ count_below n p + (if p b then 0 else 1)
+  pub removed : (n b : ℕ) (p q : ℕ → Bool) → b < n → ((c : ℕ) → q c ≡ (not (nat_eq c b) && p c)) → count_below n q + (if p b then 1 else 0) ≡ count_below n p
   -- two sets of at least k of n bricks share a brick where n is below 2k
   pub share : (n k : ℕ) (p q : ℕ → Bool) → n < 2 * k → k ≤ count_below n p → k ≤ count_below n q → (b : ℕ) × (b < n) × (p b ≡ true) × (q b ≡ true)
   -- bits with the same bricks are equal

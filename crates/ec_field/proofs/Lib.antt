@@ -6,3 +6,4 @@ pub mod Products
 pub mod Powers
 pub mod Elements
 pub mod Steps
+pub mod Planes

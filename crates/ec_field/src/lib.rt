@@ -1,10 +1,12 @@
 // The field of the code and the chunk of 512 bytes that is coded.
 //
 // Promised: `mul`, `inv` and `pow` are the product of the field and what follows from it, bytes are a field under it,
-// and `element` reads an element of a chunk bit by bit. No call allocates, and each is total under its conditions.
+// and `element` reads an element of a chunk bit by bit; a chunk is made of elements, and of two chunks by their sum. No
+// call allocates, and each is total under its conditions.
 #![tactic(auto)]
 
 mod arithmetic;
+mod build;
 mod chunk;
 
 pub use arithmetic::{add, field_laws, inv, mul, pow};

@@ -1,5 +1,5 @@
 -- Chunks by their elements.
-use Rattle.std.proofs.Common.{◌≡◌, ℕ, zero, suc, ◌+◌, ◌-◌, ◌*◌, ◌/◌, ◌%◌, ◌^◌, ◌<◌, ◌≤◌, List, length, get_or, ◌⊎◌, inl, inr, refl, ap, sym, ◌∙◌, arith, lit<}
+use Rattle.std.proofs.Common.{◌≡◌, ℕ, ◌+◌, ◌*◌, ◌/◌, ◌%◌, ◌^◌, ◌<◌, List, get_or, inl, inr, ap, sym, ◌∙◌, arith, lit<}
 use Rattle.std.specs.Prelude.{replicate}
 use Rattle.std.proofs.lemmas.Bool.{cases_lt}
 use Rattle.std.proofs.lemmas.Grind.{same_number_lists}
@@ -7,9 +7,9 @@ use Rattle.std.proofs.Math.Nat.{zero-mul}
 use Rattle.std.proofs.lemmas.List.{length-replicate, get_or-replicate, get_or_past}
 use Rattle.std.specs.Prelude.{bit_xor}
 use Rattle.std.specs.Int.{bit_at}
-use Rattle.ec_field.specs.Field.{sum_below, IsByte}
-use Rattle.ec_field.specs.Chunk.{element_bit, byte_of, element, zero_chunk, IsChunk}
-use Rattle.ec_field.proofs.Sums.{sum_ext, sum_xor, sum_lt, sum_zeros}
+use Rattle.ec_field.specs.Field.{IsByte}
+use Rattle.ec_field.specs.Chunk.{element_bit, element, zero_chunk, IsChunk}
+use Rattle.ec_field.proofs.Sums.{sum_ext, sum_xor, sum_zeros}
 use Rattle.ec_field.proofs.Linear.{bit_times-linear}
 use Rattle.ec_field.proofs.Bits.{bit_of_sum, bits_lt}
 use Rattle.std.proofs.lemmas.Nat.Bits.{bit_at-lt, bit_at-zero, same_from_bits_below}

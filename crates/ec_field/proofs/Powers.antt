@@ -3,8 +3,8 @@ use Rattle.std.proofs.Common.{◌≡◌, ℕ, zero, suc, ◌+◌, ◌-◌, ◌*�
 use Rattle.std.proofs.Math.Nat.{pow-suc, mul_comm}
 use Rattle.std.proofs.lemmas.Nat.{pow_pos}
 use Rattle.ec_field.specs.Field.{sum_below, reduced, product, power, IsByte}
-use Rattle.ec_field.proofs.Tables.{agree, agree_at}
-use Rattle.ec_field.proofs.Products.{product_assoc, product_comm, product_one, one_product, product_is_byte, product-zero_right}
+use Rattle.ec_field.proofs.Tables.{agree_at}
+use Rattle.ec_field.proofs.Products.{product_assoc, one_product, product_is_byte, product-zero_right}
 
 pub power-zero : (a : ℕ) → power a 0 ≡ 1
 unfolding power

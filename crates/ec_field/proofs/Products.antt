@@ -1,12 +1,12 @@
 -- The laws of the product.
-use Rattle.std.proofs.Common.{◌≡◌, ℕ, zero, suc, ◌+◌, ◌*◌, ◌%◌, ◌^◌, ◌<◌, ◌⊎◌, inl, inr, refl, ap, sym, ◌∙◌, arith, lit<, subst}
+use Rattle.std.proofs.Common.{◌≡◌, ℕ, zero, suc, ◌+◌, ◌*◌, ◌%◌, ◌^◌, ◌<◌, ◌⊎◌, inl, inr, refl, ap, sym, ◌∙◌, lit<, subst}
 use Rattle.std.specs.Prelude.{bit_xor}
 use Rattle.std.specs.Int.{bit_at}
 use Rattle.std.proofs.Math.Nat.{zero-mul, one-mul, mod-lt}
 use Rattle.std.proofs.lemmas.Nat.{xor_mod}
 use Rattle.std.specs.Int.Bits.{xor_zero_l}
 use Rattle.ec_field.specs.Field.{sum_below, partial_product, carryless, without_bit, reduced, product, IsByte}
-use Rattle.ec_field.proofs.Sums.{sum_ext, sum_xor, xor_exchange, sum_lt}
+use Rattle.ec_field.proofs.Sums.{sum_ext, sum_xor, xor_exchange}
 use Rattle.ec_field.proofs.Linear.{IsLinear, linear-zero, linear-sum, shift-linear, bit_times-linear, bit_cases}
 use Rattle.ec_field.proofs.Tables.{all_numbers_below, agree, agree_at, at_number}
 use Rattle.ec_field.proofs.Bits.{same_at_bytes}

@@ -1,18 +1,15 @@
 -- One step of each loop of the arithmetic, as the loop computes it.
-use Rattle.std.proofs.Common.{◌≡◌, ℕ, zero, suc, ◌+◌, ◌-◌, ◌*◌, ◌/◌, ◌%◌, ◌^◌, ◌<◌, ◌≤◌, ◌⊎◌, inl, inr, List, get_or, refl, ap, sym, ◌∙◌, arith, lit<, subst}
+use Rattle.std.proofs.Common.{◌≡◌, ℕ, suc, ◌+◌, ◌*◌, ◌/◌, ◌%◌, ◌^◌, ◌<◌, ◌≤◌, List, get_or, refl, ap, sym, ◌∙◌, arith, lit<}
 use Rattle.std.specs.Prelude.{bit_xor, bit_and}
 use Rattle.std.specs.Int.{bit_at}
 use Rattle.std.proofs.Math.Nat.{mod-eq_of_lt, mul-lt-mul_of_pos_right, pow-le-pow_right}
-use Rattle.std.proofs.lemmas.Nat.{pow_pos, mul-le, pow-add}
-use Rattle.std.proofs.Math.Pow.{pow-lt}
+use Rattle.std.proofs.lemmas.Nat.{pow_pos, pow-add}
 use Rattle.std.proofs.lemmas.Nat.Bits.{shr_and_one, bit_at-lt}
 use Rattle.ec_field.specs.Field.{sum_below, partial_product, without_bit, reduced, product, power, IsByte}
 use Rattle.ec_field.specs.Chunk.{element_bit, element}
 use Rattle.ec_field.proofs.Sums.{sum_more}
 use Rattle.ec_field.proofs.Products.{product_assoc}
 use Rattle.ec_field.proofs.Powers.{power-square, power-suc, power_is_byte}
-use Rattle.ec_field.proofs.Linear.{bit_cases}
-use Rattle.ec_field.proofs.Bits.{bit_lt}
 
 -- a shift of a number that stays within its type
 pub shift_fits : (a i k n : ℕ) → a < 2 ^ k → k + i ≤ n → a * 2 ^ i % 2 ^ n ≡ a * 2 ^ i

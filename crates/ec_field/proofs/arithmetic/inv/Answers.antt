@@ -1,9 +1,8 @@
-use Rattle.std.proofs.Common.{◌≡◌, ◌∙◌, ap, sym, subst, ℕ, Option, Some, None}
+use Rattle.std.proofs.Common.{◌≡◌, ◌∙◌, sym, Option, Some, None}
 use Rattle.std.specs.Prelude.{MatchOption, IsSome}
 use Rattle.std.proofs.Common.{rules}
 use Rattle.std.proofs.lemmas.Option.{MatchOption-at_some}
 use Rattle.std.specs.Int.NonZero.{non_zero_u8_get}
-use Rattle.ec_field.specs.Field.{product, power}
 use Rattle.ec_field.proofs.Powers.{power_inverts, power_not_zero}
 use Rattle.ec_field.proofs.arithmetic.inv.Goals as goal
 

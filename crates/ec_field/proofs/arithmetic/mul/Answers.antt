@@ -1,5 +1,5 @@
-use Rattle.std.proofs.Common.{◌≡◌, suc, ◌-◌, ◌+◌, ◌<◌, ◌^◌, ap, sym, ◌∙◌, arith, subst, ℕ}
-use Rattle.ec_field.specs.Field.{reduced, product, carryless, IsByte}
+use Rattle.std.proofs.Common.{◌≡◌, suc, ◌-◌, ◌<◌, ◌^◌, ap, sym, ◌∙◌, arith, ℕ}
+use Rattle.ec_field.specs.Field.{reduced, product, carryless}
 use Rattle.ec_field.proofs.Sums.{sum_none}
 use Rattle.ec_field.proofs.Steps.{mul_step, reduce_step, reduced-suc, reduced-zero, product_is}
 use Rattle.ec_field.proofs.Products.{product_is_byte}

@@ -1,4 +1,4 @@
-use Rattle.std.proofs.Common.{◌≡◌, ◌-◌}
+use Rattle.std.proofs.Common.{◌≡◌}
 use Rattle.ec_field.specs.Field.{sum_below, partial_product, reduced, carryless}
 use Rattle.ec_field.proofs.arithmetic.mul.Given as goal
 

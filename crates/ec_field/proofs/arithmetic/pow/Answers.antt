@@ -1,4 +1,4 @@
-use Rattle.std.proofs.Common.{◌≡◌, ◌%◌, ◌<◌, ◌^◌, ◌∙◌, ap, sym, arith, lit<}
+use Rattle.std.proofs.Common.{◌≡◌, ◌%◌, ◌∙◌, ap, sym, arith, lit<}
 use Rattle.ec_field.specs.Field.{product, power}
 use Rattle.ec_field.proofs.Products.{one_product, product_one}
 use Rattle.ec_field.proofs.Powers.{power_is_byte, power-zero}

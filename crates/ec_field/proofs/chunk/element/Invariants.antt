@@ -1,5 +1,4 @@
 use Rattle.std.proofs.Common.{◌≡◌}
-use Rattle.std.specs.Int.{bit_at}
 use Rattle.ec_field.specs.Field.{sum_below}
 use Rattle.ec_field.specs.Chunk.{element_bit}
 use Rattle.std.proofs.Common.{◌*◌, ◌^◌}

@@ -4,3 +4,4 @@ pub mod Split
 pub mod Numbers
 pub mod Data
 pub mod Script
+pub mod File

@@ -1,6 +1,7 @@
 // The top call of the volume: a script in, the answers of its calls out.
 #![tactic(auto)]
 
+mod brick;
 mod data;
 mod numbers;
 mod outside;
@@ -9,4 +10,5 @@ mod script;
 mod split;
 mod writer;
 
+pub use brick::PlainBrick;
 pub use outside::{Failed, Sink, SinkFault, Source};

@@ -33,11 +33,14 @@ abbrev pub write_of : ℕ → Option ℕ → Option (List ℕ) → Option Call
 write_of k (Some off) (Some bytes) = if is_range k off (length bytes) then Some (Write off bytes) else None
 write_of k _ _ = None
 
--- the bits of rising numbers below n, none below `least`, added to the bits of lower ones
+-- a brick below n that a word names, where it is none below `least`
+abbrev pub brick_of : ℕ → ℕ → List ℕ → Option ℕ
+brick_of n least word = option_and_then (λ b. if nat_le least b && nat_lt b n then Some b else None) (number_of word)
+
+-- the bits of rising bricks below n, none below `least`, added to the bits of lower ones
 unfoldable pub rising_bits : ℕ → List (List ℕ) → ℕ → ℕ → Option ℕ
 rising_bits n [] least bits = Some bits
-rising_bits n (part ∷ parts) least bits =
-    option_and_then (λ b. if nat_le least b && nat_lt b n then rising_bits n parts (b + 1) (bits + 2 ^ b) else None) (number_of part)
+rising_bits n (part ∷ parts) least bits = option_and_then (λ b. rising_bits n parts (b + 1) (bits + 2 ^ b)) (brick_of n least part)
 
 -- the bits of a set where it has k bricks
 abbrev pub of_count : ℕ → ℕ → Option ℕ

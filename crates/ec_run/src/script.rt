@@ -1,8 +1,8 @@
 // The lines of a script.
-ghost use Rattle.std.specs.Prelude.{◌≡◌, ◌+◌, ◌-◌, ◌≤◌, ◌<◌, ℕ, None, Some, length, map, bytes_eq, codes, IfOk, IsErrOf, option_and_then, nat_eq};
+ghost use Rattle.std.specs.Prelude.{◌≡◌, ◌+◌, ◌-◌, ◌≤◌, ◌<◌, ℕ, None, Some, length, map, bytes_eq, codes, IfOk, IfSome, IsErrOf, option_and_then, nat_eq};
 ghost use Rattle.std.specs.List.{slice_split};
 ghost use Rattle.ec_run.specs.Data.{data_bytes};
-ghost use Rattle.ec_run.specs.Script.{is_range, is_call, write_of, read_of, rising_bits, bricks_of, call_of, event_of_words, event_of};
+ghost use Rattle.ec_run.specs.Script.{is_range, is_call, write_of, read_of, brick_of, rising_bits, bricks_of, call_of, event_of_words, event_of};
 ghost use Rattle.ec_run.specs.declared.script.LineError.TheVariants.{NoMemory};
 
 use crate::data::{DataError, MOST_BYTES, data};
@@ -77,6 +77,17 @@ fn is_range(g: &Geometry, off: u64, len: u64) -> bool
     off % stripe == 0 && len % stripe == 0 && len > 0 && len <= MOST_BYTES as u64 && off <= MOST_SIZE && len <= MOST_SIZE - off
 }
 
+/// A brick below `n` that a word names, where it is none below `least`.
+fn brick_of(n: u8, least: u8, word: &[u8]) -> Option<u8>
+    ensures value { result ≡ brick_of n least word.now }
+    ensures bounds { IfSome result (λ b. (least ≤ b) × (b < n)) }
+{
+    match number(word) {
+        Some(b) if b >= u64::from(least) && b < u64::from(n) => Some(b as u8),
+        _ => None,
+    }
+}
+
 /// Rising numbers of bricks, divided by commas.
 fn rising(g: &Geometry, word: &[u8]) -> Option<BrickSet>
     ensures { result ≡ rising_bits g.now.n (slice_split (λ b. nat_eq b 44) word.now) 0 0 }
@@ -86,14 +97,14 @@ fn rising(g: &Geometry, word: &[u8]) -> Option<BrickSet>
     let mut rest = Some(word);
     while let Some(parts) = rest {
         let (part, more) = first_piece(parts, b',');
-        match number(part) {
-            Some(b) if b >= u64::from(least) && b < u64::from(g.n) => {
-                set = set.plus(b as u8);
-                least = b as u8 + 1;
+        match brick_of(g.n, least, part) {
+            Some(b) => {
+                set = set.plus(b);
+                least = b + 1;
+                rest = more;
             }
-            _ => return None,
+            None => return None,
         }
-        rest = more;
     }
     Some(set)
 }

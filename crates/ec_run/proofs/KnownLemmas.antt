@@ -1,6 +1,7 @@
 -- What is read and written, where it is told.
 use Rattle.std.proofs.Common.{◌≡◌, ℕ, ◌-◌, List, [], ◌++◌, None, Some, Option, length, take, drop, refl, sym, ap, ◌∙◌, append_assoc, append-nil, take-append-drop}
-use Rattle.std.proofs.KnownBytes.{Consumes-trans}
+use Rattle.std.proofs.KnownBytes.{Consumes-trans, Appends-nil}
+use Rattle.ec_run.specs.Outside.{Begins}
 use Rattle.std.proofs.lemmas.List.{take_rest}
 use Rattle.std.specs.Io.KnownBytes.{Consumes, IsAtEnd, Keeps, Appends, prepend_known}
 
@@ -27,3 +28,7 @@ consumes_front old now left front held n first same =
     Consumes-trans old (prepend_known held left) (prepend_known (drop n held) left) front (take n held)
       (rw append-nil at (Consumes-trans old now (prepend_known held left) front [] first same))
       (consumes_taken left held n)
+
+-- nothing is written of a text
+pub begins_nothing : (now : Option (List ℕ)) (text : List ℕ) → Begins now now text
+begins_nothing now text = ([], text, refl, Appends-nil now)

@@ -5,3 +5,5 @@ pub mod Numbers
 pub mod Data
 pub mod Script
 pub mod File
+pub mod Play
+pub mod Player

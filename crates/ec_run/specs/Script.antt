@@ -1,5 +1,5 @@
 -- The lines of a script, for a volume of n bricks of which k suffice to read.
-use Rattle.std.specs.Prelude.{◌≡◌, ◌<◌, ℕ, ◌+◌, ◌*◌, ◌%◌, ◌^◌, Bool, ◌&&◌, List, [], ◌∷◌, length, Option, Some, None, option_and_then, nat_eq, nat_le, nat_lt, bytes_eq, codes, slice_index_or, if◌then◌else◌}
+use Rattle.std.specs.Prelude.{◌≡◌, ◌<◌, ℕ, ◌+◌, ◌*◌, ◌%◌, ◌^◌, Bool, true, ◌&&◌, List, [], ◌∷◌, length, Option, Some, None, option_and_then, nat_eq, nat_le, nat_lt, bytes_eq, codes, slice_index_or, if◌then◌else◌}
 use Rattle.std.specs.List.{slice_split}
 use Rattle.ec_attr.specs.Bricks.{count_below, is_in}
 use Rattle.ec_run.specs.Split.{words, without_return}
@@ -76,3 +76,21 @@ event_of_words n k ws =
 
 abbrev pub event_of : ℕ → ℕ → List ℕ → Option (Option Event)
 event_of n k line = event_of_words n k (words (without_return line))
+
+-- a set of k bricks below n, which suffices to read
+abbrev pub IsVia : ℕ → ℕ → ℕ → Type 0
+IsVia n k via = (count_below 31 (is_in via) ≡ k) × ((b : ℕ) → is_in via b ≡ true → b < n)
+
+-- a call of whole stripes, of a volume of n bricks of which k suffice to read
+abbrev pub CallFits : ℕ → ℕ → Call → Type 0
+CallFits n k (Write off bytes) = is_range k off (length bytes) ≡ true
+CallFits n k (Read off len via) = (is_range k off len ≡ true) × IsVia n k via
+
+abbrev pub EventFits : ℕ → ℕ → Option Event → Type 0
+EventFits n k None = Unit {0}
+EventFits n k (Some event.Settle) = Unit {0}
+EventFits n k (Some (event.Call call)) = CallFits n k call
+
+abbrev pub WaitingFits : ℕ → ℕ → Option Call → Type 0
+WaitingFits n k None = Unit {0}
+WaitingFits n k (Some call) = CallFits n k call

@@ -1,8 +1,9 @@
 // The lines of a script.
-ghost use Rattle.std.specs.Prelude.{◌≡◌, ◌+◌, ◌-◌, ◌≤◌, ◌<◌, ℕ, None, Some, length, map, bytes_eq, codes, IfOk, IfSome, IsErrOf, option_and_then, nat_eq};
+ghost use Rattle.std.specs.Prelude.{◌≡◌, ◌+◌, ◌-◌, ◌≤◌, ◌<◌, ℕ, None, Some, true, length, map, bytes_eq, codes, IfOk, IfSome, IsErrOf, option_and_then, nat_eq};
 ghost use Rattle.std.specs.List.{slice_split};
+ghost use Rattle.ec_attr.specs.Bricks.{is_in};
 ghost use Rattle.ec_run.specs.Data.{data_bytes};
-ghost use Rattle.ec_run.specs.Script.{is_range, is_call, write_of, read_of, brick_of, rising_bits, bricks_of, call_of, event_of_words, event_of};
+ghost use Rattle.ec_run.specs.Script.{is_range, is_call, CallFits, EventFits, IsVia, write_of, read_of, brick_of, rising_bits, bricks_of, call_of, event_of_words, event_of};
 ghost use Rattle.ec_run.specs.declared.script.LineError.TheVariants.{NoMemory};
 
 use crate::data::{DataError, MOST_BYTES, data};
@@ -49,6 +50,7 @@ impl From<AllocError> for LineError {
 /// What a line orders: nothing, where it is blank, or an event.
 pub fn event_of(alloc: Global, g: &Geometry, line: &[u8]) -> Result<Option<Event>, LineError>
     ensures ok { IfOk result (λ event. event_of g.now.n (g.now.n - g.now.r) line.now ≡ Some event) }
+    ensures fits { IfOk result (EventFits g.now.n (g.now.n - g.now.r)) }
     ensures unbuilt { IsErrOf result LineError.Unbuilt → event_of g.now.n (g.now.n - g.now.r) line.now ≡ None }
 {
     let found = words(alloc, without_return(line))?;
@@ -90,7 +92,8 @@ fn brick_of(n: u8, least: u8, word: &[u8]) -> Option<u8>
 
 /// Rising numbers of bricks, divided by commas.
 fn rising(g: &Geometry, word: &[u8]) -> Option<BrickSet>
-    ensures { result ≡ rising_bits g.now.n (slice_split (λ b. nat_eq b 44) word.now) 0 0 }
+    ensures value { result ≡ rising_bits g.now.n (slice_split (λ b. nat_eq b 44) word.now) 0 0 }
+    ensures below { IfSome result (λ set. (b : ℕ) → is_in set b ≡ true → b < g.now.n) }
 {
     let mut set = BrickSet::empty();
     let mut least = 0u8;
@@ -112,7 +115,8 @@ fn rising(g: &Geometry, word: &[u8]) -> Option<BrickSet>
 #[tactic(auto, unfolding(crate::specs::Script::bricks_of))]
 /// As many bricks as suffice to read.
 fn bricks_of(g: &Geometry, word: &[u8]) -> Option<BrickSet>
-    ensures { result ≡ bricks_of g.now.n (g.now.n - g.now.r) word.now }
+    ensures value { result ≡ bricks_of g.now.n (g.now.n - g.now.r) word.now }
+    ensures via { IfSome result (IsVia g.now.n (g.now.n - g.now.r)) }
 {
     let set = rising(g, word)?;
     if set.len() == g.k() { Some(set) } else { None }
@@ -122,6 +126,7 @@ fn bricks_of(g: &Geometry, word: &[u8]) -> Option<BrickSet>
 /// What the words of a line order.
 fn event_of_words(alloc: Global, g: &Geometry, words: &[&[u8]]) -> Result<Option<Event>, LineError>
     ensures ok { IfOk result (λ event. event_of_words g.now.n (g.now.n - g.now.r) (map (λ w. w.now) words.now) ≡ Some event) }
+    ensures fits { IfOk result (EventFits g.now.n (g.now.n - g.now.r)) }
     ensures unbuilt { IsErrOf result LineError.Unbuilt → event_of_words g.now.n (g.now.n - g.now.r) (map (λ w. w.now) words.now) ≡ None }
 {
     if words.is_empty() {
@@ -140,6 +145,7 @@ fn event_of_words(alloc: Global, g: &Geometry, words: &[&[u8]]) -> Result<Option
 /// The call that a line orders.
 fn call_of(alloc: Global, g: &Geometry, words: &[&[u8]]) -> Result<Call, LineError>
     ensures ok { IfOk result (λ call. call_of g.now.n (g.now.n - g.now.r) (map (λ w. w.now) words.now) ≡ Some call) }
+    ensures fits { IfOk result (CallFits g.now.n (g.now.n - g.now.r)) }
     ensures unbuilt { IsErrOf result LineError.Unbuilt → call_of g.now.n (g.now.n - g.now.r) (map (λ w. w.now) words.now) ≡ None }
 {
     if words.len() == 6 && is_call(words, "write") {
@@ -153,6 +159,7 @@ fn call_of(alloc: Global, g: &Geometry, words: &[&[u8]]) -> Result<Call, LineErr
 
 fn write_of(alloc: Global, g: &Geometry, off: Option<u64>, word: &[u8]) -> Result<Call, LineError>
     ensures ok { IfOk result (λ call. write_of (g.now.n - g.now.r) off (data_bytes word.now) ≡ Some call) }
+    ensures fits { IfOk result (CallFits g.now.n (g.now.n - g.now.r)) }
     ensures unbuilt { IsErrOf result LineError.Unbuilt → write_of (g.now.n - g.now.r) off (data_bytes word.now) ≡ None }
 {
     let Some(off) = off else {
@@ -171,7 +178,9 @@ fn write_of(alloc: Global, g: &Geometry, off: Option<u64>, word: &[u8]) -> Resul
 }
 
 fn read_of(g: &Geometry, off: Option<u64>, len: Option<u64>, via: Option<BrickSet>) -> Option<Call>
-    ensures { result ≡ read_of (g.now.n - g.now.r) off len via }
+    requires { IfSome via (IsVia g.now.n (g.now.n - g.now.r)) }
+    ensures value { result ≡ read_of (g.now.n - g.now.r) off len via }
+    ensures fits { IfSome result (CallFits g.now.n (g.now.n - g.now.r)) }
 {
     match (off, len, via) {
         (Some(off), Some(len), Some(via)) if is_range(g, off, len) => Some(Call::Read { off, len, via }),

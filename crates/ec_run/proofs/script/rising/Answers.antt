@@ -1,4 +1,5 @@
-use Rattle.std.proofs.Common.{◌≡◌, ◌∷◌, ◌+◌, ◌<◌, ◌≤◌, ◌^◌, ℕ, suc, Some, None, refl, sym, ◌∙◌, ap, arith, lit<, add-one, ◌*◌}
+use Rattle.std.proofs.Common.{◌≡◌, ◌∷◌, ◌+◌, ◌<◌, ◌≤◌, ◌^◌, ℕ, suc, Some, None, refl, sym, ◌∙◌, ap, arith, lit<, add-one, ◌*◌, ◌⊎◌, inl, inr}
+use Rattle.std.proofs.lemmas.Bool.{cases_eq, ne_eqb}
 use Rattle.std.specs.Prelude.{nat_eq, option_and_then}
 use Rattle.std.specs.Option.{option_map}
 use Rattle.std.proofs.Math.Nat.{pow-suc, pow-le-pow_right}
@@ -7,8 +8,8 @@ use Rattle.ec_run.specs.Split.{pieces}
 use Rattle.ec_run.proofs.ScriptLemmas.{plus_above, rising_done, rising_part}
 use Rattle.ec_run.proofs.script.rising.Goals as goal
 
-pub returns-in-None : goal.returns-in-None
-returns-in-None c =
+pub returns-in-None-clause-value : goal.returns-in-None-clause-value
+returns-in-None-clause-value c =
     sym (c.loop-rest.invariant.parts
       ∙ rw (c.in-Some.is, rising_part c.args.g.now.n c.loop-rest.least c.loop-rest.set c.in-Some.parts.now c.first_piece.result.0.now
             (option_map (λ rest. rest.now) c.first_piece.result.1) c.first_piece.ensures.pieces, ← c.in-None.ensures.value) refl)
@@ -27,8 +28,13 @@ loop-rest-preserved c =
         ∙ rw (c.in-Some.is, rising_part c.args.g.now.n c.loop-rest.least c.loop-rest.set c.in-Some.parts.now c.first_piece.result.0.now
               (option_map (λ rest. rest.now) c.first_piece.result.1) c.first_piece.ensures.pieces, ← c.in-Some-brick_of.ensures.value, above) refl;
       below = rw (above, add-one) (omega (arith, small, twice));
-      within = omega (arith, c.in-Some-brick_of.ensures.bounds.1)
+      within = omega (arith, c.in-Some-brick_of.ensures.bounds.1);
+      members = λ b h.
+        elim (cases_eq b c.in-Some-brick_of.b) [
+          inl same ↦ omega (arith, same, c.in-Some-brick_of.ensures.bounds.1)
+        | inr other ↦ c.loop-rest.invariant.members b (rw (c.plus-set.ensures.members b, ne_eqb b c.in-Some-brick_of.b other) at h)
+        ]
     }
 
-pub returns : goal.returns
-returns c = sym (c.loop-rest.invariant.parts ∙ rw (c.in_default.is, rising_done) refl)
+pub returns-clause-value : goal.returns-clause-value
+returns-clause-value c = sym (c.loop-rest.invariant.parts ∙ rw (c.in_default.is, rising_done) refl)

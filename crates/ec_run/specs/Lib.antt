@@ -5,3 +5,4 @@ pub mod Numbers
 pub mod Data
 pub mod Script
 pub mod File
+pub mod Stripes

@@ -8,6 +8,7 @@ mod outside;
 mod reader;
 mod script;
 mod split;
+mod stripes;
 mod writer;
 
 pub use brick::PlainBrick;

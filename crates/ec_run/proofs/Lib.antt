@@ -5,3 +5,5 @@ pub mod DataLemmas
 pub mod ScriptLemmas
 pub mod FileLemmas
 pub mod BrickLemmas
+pub mod WriteLemmas
+pub mod ReadLemmas

@@ -1,7 +1,7 @@
 // Whole stripes of the flat file, written to bricks in memory and read back.
 ghost use Rattle.std.specs.Prelude.{◌≡◌, ◌≢◌, ℕ, ◌+◌, ◌-◌, ◌*◌, ◌%◌, ◌^◌, ◌<◌, ◌≤◌, ◌++◌, true, length, slice_index, vec_len, OnOk, OnErr, IfOk};
 ghost use Rattle.ec_field.specs.Code.{IsCode, chunk_at};
-ghost use Rattle.ec_attr.specs.Bricks.{bricks, is_in};
+ghost use Rattle.ec_attr.specs.Bricks.{bricks as bricks_in, is_in};
 ghost use Rattle.ec_run.specs.File.{File, written, bytes_from, stripe_of, piece, fragment_at, IsCoded, IsCodedAt, IsFile};
 ghost use Rattle.ec_run.specs.Stripes.{file_of, HasRoom, SamePieces, ArePut};
 
@@ -121,9 +121,9 @@ pub fn write_stripes<T: RowTimes>(
 /// The pieces of stripe `s` at the bricks of a set, in rising order of the bricks.
 fn gather(bricks: &Vec<PlainBrick>, via: &BrickSet, s: usize, pieces: &mut [Chunk])
     requires below { (b : ℕ) → is_in via.now b ≡ true → b < vec_len bricks.now }
-    requires places { length pieces.old ≡ length (bricks via.now) }
+    requires places { length pieces.old ≡ length (bricks_in via.now) }
     ensures { (i : ℕ) → i < length pieces.old
-        → chunk_at pieces.new i ≡ piece (fragment_at bricks.now.items (slice_index (bricks via.now) i)) s }
+        → chunk_at pieces.new i ≡ piece (fragment_at bricks.now.items (slice_index (bricks_in via.now) i)) s }
 {
     let mut count = 0;
     for b in 0..31u8 {
@@ -156,8 +156,8 @@ fn decode_stripe<T: RowTimes>(
 )
     requires bits { decoder.now.bits ≡ via.now }
     requires below { (b : ℕ) → is_in via.now b ≡ true → b < vec_len bricks.now }
-    requires few { length (bricks via.now) ≤ 16 }
-    requires places { length out.old ≡ length (bricks via.now) }
+    requires few { length (bricks_in via.now) ≤ 16 }
+    requires places { length out.old ≡ length (bricks_in via.now) }
     ensures { (file : File) → IsFile file
         → IsCodedAt (length out.old) decoder.now.algorithm (is_in via.now) bricks.now.items file
         → out.new ≡ stripe_of (length out.old) file s }
@@ -179,7 +179,7 @@ pub fn read_stripes<T: RowTimes>(
     len: u64,
 ) -> Result<Blob, AllocError>
     requires count { vec_len bricks.now ≡ g.now.n }
-    requires via { length (bricks via.now) + g.now.r ≡ g.now.n }
+    requires via { length (bricks_in via.now) + g.now.r ≡ g.now.n }
     requires below { (b : ℕ) → is_in via.now b ≡ true → b < g.now.n }
     requires place { off % (512 * (g.now.n - g.now.r)) ≡ 0 }
     requires whole { len % (512 * (g.now.n - g.now.r)) ≡ 0 }

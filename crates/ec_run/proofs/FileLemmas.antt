@@ -4,10 +4,14 @@ use Rattle.std.specs.List.{range_with_len}
 use Rattle.std.proofs.lemmas.Bool.{cases_lt, cases_Bool, and_parts, and_from, and_left, and_right}
 use Rattle.std.proofs.lemmas.Bool.Decides.{nat_tests}
 use Rattle.std.proofs.lemmas.Grind.{same_number_lists}
-use Rattle.std.proofs.lemmas.List.{ext_get_or, get_or-take, get_or-drop, get_or_past, length-replicate, length-take-le, length-drop, map-append}
+use Rattle.std.proofs.lemmas.List.{ext_get_or, get_or-take, get_or-drop, get_or_past, get_or-replicate, length-replicate, length-take-le, length-drop, map-append}
 use Rattle.std.proofs.lemmas.List.FromFn.{length-map-range_with_len, get_or-map-range_with_len}
 use Rattle.ec_field.specs.Chunk.{element, zero_chunk, IsChunk}
-use Rattle.ec_field.specs.Code.{IsCode, IsStripe, chunk_at}
+use Rattle.ec_field.specs.Field.{product, IsByte}
+use Rattle.ec_field.specs.Code.{IsCode, IsStripe, chunk_at, plain_entry, IsRow}
+use Rattle.ec_field.proofs.Sums.{sum_zeros}
+use Rattle.ec_field.proofs.Powers.{power_is_byte}
+use Rattle.ec_field.proofs.Products.{product-zero_right}
 use Rattle.ec_field.proofs.Elements.{element-zeros, zero_is_chunk}
 use Rattle.ec_run.specs.File.{File, empty_file, written, bytes_from, chunk_of, stripe_of, piece, fragment_at, IsCoded, IsCodedAt, IsFile}
 use Rattle.ec_run.specs.Stripes.{file_of}
@@ -100,3 +104,89 @@ chunk_of_is_chunk file is n = record { len = length-bytes_from file (512 * n) 51
 
 pub stripe_of_is_stripe : (k : ℕ) (file : File) (s : ℕ) → IsFile file → IsStripe k (stripe_of k file s)
 stripe_of_is_stripe k file s is = record { len = length-stripe_of k file s; chunks = λ j l. rw (chunk_of_stripe k file s j l) (chunk_of_is_chunk file is (k * s + j)) }
+
+-- bytes of a file after a write
+
+if_outside : (file : File) (off : ℕ) (bytes : List ℕ) (at : ℕ) → (at < off) ⊎ (off + length bytes ≤ at)
+    → (nat_le off at && nat_lt at (off + length bytes)) ≡ false
+if_outside file off bytes at (inl l) = grind (arith, nat_tests)
+if_outside file off bytes at (inr l) = grind (arith, nat_tests)
+
+pub byte_outside : (file : File) (off : ℕ) (bytes : List ℕ) (at : ℕ) → (at < off) ⊎ (off + length bytes ≤ at) → (written file off bytes).byte at ≡ file.byte at
+byte_outside file off bytes at l = rw (if_outside file off bytes at l) refl
+
+if_inside : (off len at i : ℕ) → off + i ≡ at → i < len → (nat_le off at && nat_lt at (off + len)) ≡ true
+if_inside off len at i e l = grind (arith, nat_tests)
+
+pub byte_inside : (file : File) (off : ℕ) (bytes : List ℕ) (at i : ℕ) → off + i ≡ at → i < length bytes → (written file off bytes).byte at ≡ get_or bytes i 0
+byte_inside file off bytes at i e l =
+    let place : at - off ≡ i = omega arith in
+    rw (if_inside off (length bytes) at i e l, place) refl
+
+-- The empty file is a file, and so is a file after a write of bytes.
+
+pub empty_is_file : IsFile empty_file
+empty_is_file = record { bytes = λ at. lit< tt; past = λ at l. refl }
+
+written_bytes : (file : File) (off : ℕ) (bytes : List ℕ) → IsFile file → ((i : ℕ) → get_or bytes i 0 < 2 ^ 8) → (at : ℕ) → (written file off bytes).byte at < 2 ^ 8
+written_bytes file off bytes is are at =
+    elim (cases_lt at off) [
+      | inl before ↦ rw (byte_outside file off bytes at (inl before)) (is.bytes at)
+      | inr from ↦ elim (cases_lt at (off + length bytes)) [
+        | inl among ↦ rw (byte_inside file off bytes at (at - off) (omega arith) (omega arith)) (are (at - off))
+        | inr past ↦ rw (byte_outside file off bytes at (inr past)) (is.bytes at)
+      ]
+    ]
+
+is_le : (a b : ℕ) → a ≤ b → nat_le a b ≡ true
+is_le a b l = grind (arith, nat_tests)
+
+not_le : (a b : ℕ) → b < a → nat_le a b ≡ false
+not_le a b l = grind (arith, nat_tests)
+
+written_size : (file : File) (off : ℕ) (bytes : List ℕ) (at : ℕ) → (written file off bytes).size ≤ at → (off + length bytes ≤ at) × (file.size ≤ at)
+written_size file off bytes at l =
+    elim (cases_lt (off + length bytes) file.size) [
+      | inl shorter ↦ let size : (written file off bytes).size ≡ file.size = rw (not_le file.size (off + length bytes) shorter) refl in (omega arith, omega arith)
+      | inr longer ↦ let size : (written file off bytes).size ≡ off + length bytes = rw (is_le file.size (off + length bytes) longer) refl in (omega arith, omega arith)
+    ]
+
+pub written_is_file : (file : File) (off : ℕ) (bytes : List ℕ) → IsFile file → ((i : ℕ) → get_or bytes i 0 < 2 ^ 8) → IsFile (written file off bytes)
+written_is_file file off bytes is are = record {
+  bytes = written_bytes file off bytes is are;
+  past = λ at l. let past = written_size file off bytes at l in byte_outside file off bytes at (inr past.0) ∙ is.past at past.1;
+}
+
+-- Empty bricks hold the codes of the empty file, which are zeros.
+
+zero_element : (e : ℕ) → e < 512 → element zero_chunk e ≡ 0
+unfolding zero_chunk
+zero_element e l = element-zeros zero_chunk (λ p h. get_or-replicate {A = ℕ} 512 p 0 0 h) e l
+
+empty_element : (k s j e : ℕ) → j < k → e < 512 → element (chunk_at (stripe_of k empty_file s) j) e ≡ 0
+empty_element k s j e l h =
+    rw (chunk_of_stripe k empty_file s j l)
+    (element-zeros (chunk_of empty_file (k * s + j)) (λ p m. byte_from empty_file (512 * (k * s + j)) 512 p (512 * (k * s + j) + p) m refl) e h)
+
+zeros_are_code : (k algorithm b s : ℕ) (row : ℕ → ℕ) → ((j : ℕ) → j < k → IsByte (row j)) → IsRow k algorithm b row → IsCode k algorithm b (stripe_of k empty_file s) zero_chunk
+zeros_are_code k algorithm b s row bytes is_row = record {
+  row = row;
+  bytes = bytes;
+  is_row = is_row;
+  elements = λ e h. zero_element e h
+      ∙ sym (sum_zeros k (λ j. product (row j) (element (chunk_at (stripe_of k empty_file s) j) e))
+      (λ j l. ap (product (row j)) (empty_element k s j e l h) ∙ product-zero_right (row j)));
+}
+
+-- under any algorithm, with the rows of the bricks
+pub empty_is_coded_by : (n k algorithm : ℕ) (rows : ℕ → ℕ → ℕ) (bricks : List (List (List ℕ))) → ((b : ℕ) → b < n → (j : ℕ) → j < k → IsByte (rows b j))
+    → ((b : ℕ) → b < n → IsRow k algorithm b (rows b)) → ((b : ℕ) → fragment_at bricks b ≡ []) → IsCoded n k algorithm bricks empty_file
+empty_is_coded_by n k algorithm rows bricks bytes are_rows empty b is_brick s =
+    let l : b < n = grind (arith, nat_tests) in
+    let none : piece (fragment_at bricks b) s ≡ zero_chunk = ap (λ x. piece x s) (empty b) ∙ get_or_past [] s zero_chunk (omega arith) in
+    subst (λ x. IsCode k algorithm b (stripe_of k empty_file s) x) (sym none) (zeros_are_code k algorithm b s (rows b) (bytes b l) (are_rows b l))
+
+-- with the plain rows
+pub empty_is_coded : (n k : ℕ) (bricks : List (List (List ℕ))) → n ≤ 31 → ((b : ℕ) → fragment_at bricks b ≡ []) → IsCoded n k 0 bricks empty_file
+empty_is_coded n k bricks most empty =
+    empty_is_coded_by n k 0 (plain_entry k) bricks (λ b l j h. power_is_byte (b + 1) (k - 1 - j) (omega arith)) (λ b l j h. refl) empty

@@ -6,54 +6,11 @@ use Rattle.std.proofs.lemmas.Bool.Decides.{nat_tests}
 use Rattle.ec_field.specs.Code.{IsCode}
 use Rattle.ec_run.specs.File.{File, written, stripe_of, piece, fragment_at, IsCoded, IsFile}
 use Rattle.ec_run.specs.Stripes.{file_of, SamePieces, ArePut}
-use Rattle.ec_run.proofs.FileLemmas.{same_stripes}
+use Rattle.ec_run.proofs.FileLemmas.{same_stripes, byte_outside, byte_inside}
 
 -- a stripe that comes before the end of whole stripes has its place
 pub stripe_fits : (k i count len : ℕ) → i < count → 512 * k * count ≤ len → 512 * k * i + 512 * k ≤ len
 stripe_fits k i count len l h = let next : i + 1 ≤ count = omega arith in let m : k * (i + 1) ≤ k * count = mul-le-mul_left k next in omega arith
-
--- bytes of a file after a write
-
-if_outside : (file : File) (off : ℕ) (bytes : List ℕ) (at : ℕ) → (at < off) ⊎ (off + length bytes ≤ at)
-    → (nat_le off at && nat_lt at (off + length bytes)) ≡ false
-if_outside file off bytes at (inl l) = grind (arith, nat_tests)
-if_outside file off bytes at (inr l) = grind (arith, nat_tests)
-
-pub byte_outside : (file : File) (off : ℕ) (bytes : List ℕ) (at : ℕ) → (at < off) ⊎ (off + length bytes ≤ at) → (written file off bytes).byte at ≡ file.byte at
-byte_outside file off bytes at l = rw (if_outside file off bytes at l) refl
-
-if_inside : (off len at i : ℕ) → off + i ≡ at → i < len → (nat_le off at && nat_lt at (off + len)) ≡ true
-if_inside off len at i e l = grind (arith, nat_tests)
-
-pub byte_inside : (file : File) (off : ℕ) (bytes : List ℕ) (at i : ℕ) → off + i ≡ at → i < length bytes → (written file off bytes).byte at ≡ get_or bytes i 0
-byte_inside file off bytes at i e l =
-    let place : at - off ≡ i = omega arith in
-    rw (if_inside off (length bytes) at i e l, place) refl
-
--- stripes that are put one after the other
-
-pub none_put : (n k algorithm first : ℕ) (bytes : List ℕ) (bricks : List (List (List ℕ))) → ArePut n k algorithm first 0 bytes bricks bricks
-none_put n k algorithm first bytes bricks = record { codes = λ b l t h. absurd (omega arith); before = λ b s l. refl; past = λ b s l. refl }
-
-pub next_put : (n k algorithm first i m : ℕ) (bytes : List ℕ) (stripe : List (List ℕ)) (old mid new : List (List (List ℕ)))
-    → ArePut n k algorithm first i bytes old mid → m ≡ k → stripe ≡ stripe_of k (file_of bytes) i
-    → ((b : ℕ) → b < n → IsCode m algorithm b stripe (piece (fragment_at new b) (first + i)))
-    → ((b t : ℕ) → t ≢ first + i → piece (fragment_at new b) t ≡ piece (fragment_at mid b) t)
-    → ArePut n k algorithm first (i + 1) bytes old new
-next_put n k algorithm first i m bytes stripe old mid new put e is codes others = record {
-  codes = λ b l t h.
-      elim (cases_eq t i) [
-        | inl s ↦
-            let here : IsCode k algorithm b stripe (piece (fragment_at new b) (first + i)) = subst (λ x. IsCode x algorithm b stripe (piece (fragment_at new b) (first + i))) e (codes b l) in
-            let given : IsCode k algorithm b (stripe_of k (file_of bytes) i) (piece (fragment_at new b) (first + i)) =
-            subst (λ x. IsCode k algorithm b x (piece (fragment_at new b) (first + i))) is here in
-            subst (λ x. IsCode k algorithm b (stripe_of k (file_of bytes) x) (piece (fragment_at new b) (first + x))) (sym s) given
-        | inr d ↦
-            subst (λ x. IsCode k algorithm b (stripe_of k (file_of bytes) t) x) (sym (others b (first + t) (omega arith))) (put.codes b l t (omega arith))
-      ];
-  before = λ b s l. others b s (omega arith) ∙ put.before b s l;
-  past = λ b s l. others b s (omega arith) ∙ put.past b s (omega arith);
-}
 
 -- bricks whose stripes were put hold the codes of the file after the write
 

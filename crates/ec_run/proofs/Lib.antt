@@ -5,3 +5,7 @@ pub mod DataLemmas
 pub mod ScriptLemmas
 pub mod RangeLemmas
 pub mod SettleLemmas
+pub mod FileLemmas
+pub mod BrickLemmas
+pub mod WriteLemmas
+pub mod ReadLemmas

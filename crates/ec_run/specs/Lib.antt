@@ -7,3 +7,4 @@ pub mod Script
 pub mod File
 pub mod Play
 pub mod Player
+pub mod Stripes

@@ -32,3 +32,7 @@ consumes_front old now left front held n first same =
 -- nothing is written of a text
 pub begins_nothing : (now : Option (List ℕ)) (text : List ℕ) → Begins now now text
 begins_nothing now text = ([], text, refl, Appends-nil now)
+
+pub prepend_nothing : (now : Option (List ℕ)) → prepend_known [] now ≡ now
+prepend_nothing None = refl
+prepend_nothing (Some xs) = refl

@@ -9,3 +9,5 @@ pub mod FileLemmas
 pub mod BrickLemmas
 pub mod WriteLemmas
 pub mod ReadLemmas
+pub mod PlayLemmas
+pub mod RunLemmas

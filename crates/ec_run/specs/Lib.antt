@@ -8,3 +8,5 @@ pub mod File
 pub mod Play
 pub mod Player
 pub mod Stripes
+pub mod Run
+pub mod Going

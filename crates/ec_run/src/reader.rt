@@ -2,7 +2,7 @@
 ghost use Rattle.std.specs.Prelude.{◌≡◌, ◌<◌, ◌≤◌, ℕ, [], length, drop, is_some, IfOk, OnOk, OnErr, IsErrOf, MatchBool, IsTrue, ◌↔◌, vec_len, nat_eq};
 ghost use Rattle.std.specs.List.{position_or_len};
 ghost use Rattle.std.specs.Io.KnownBytes.{Consumes, IsAtEnd, Keeps, prepend_known};
-ghost use Rattle.ec_run.specs.Lines.{HasNoLine, TakesLine, BeginsLong};
+ghost use Rattle.ec_run.specs.Lines.{HasLine, HasNoLine, TakesLine, BeginsLong};
 ghost use Rattle.ec_run.specs.Outside.{Rose};
 ghost use Rattle.ec_run.specs.declared.reader.ReadError.TheVariants.{ReadFault, NoMemory};
 
@@ -85,6 +85,16 @@ impl LineReader {
         self.start = 0;
         self.end = count;
         Ok(count > 0)
+    }
+
+    /// Whether a byte is left to take.
+    pub fn has_more<S: Source>(&mut self, source: &mut S) -> Result<bool, Failed>
+        ensures line { IfOk result (λ more. MatchBool more (HasLine (prepend_known self.old (S.left source.old))) (HasNoLine (prepend_known self.old (S.left source.old)))) }
+        ensures told { is_some (S.left source.new) ≡ is_some (S.left source.old) }
+        ensures later { S.faults source.old ≤ S.faults source.new }
+        ensures cause { OnErr result (Rose (S.faults source.old) (S.faults source.new)) }
+    {
+        self.refill(source)
     }
 
     /// Whether a byte is held, where need be after asking the source.

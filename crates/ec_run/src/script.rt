@@ -57,7 +57,8 @@ pub fn event_of(alloc: Global, g: &Geometry, line: &[u8]) -> Result<Option<Event
     event_of_words(alloc, g, found.as_slice())
 }
 
-fn is(word: &[u8], text: &str) -> bool
+/// Whether a word is this text.
+pub fn is(word: &[u8], text: &str) -> bool
     ensures { result ≡ bytes_eq word.now text.now }
 {
     word == text.as_bytes()

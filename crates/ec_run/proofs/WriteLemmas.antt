@@ -1,10 +1,10 @@
 -- Writes of whole stripes.
-use Rattle.std.proofs.Common.{◌≡◌, ◌≢◌, ℕ, ◌+◌, ◌-◌, ◌*◌, ◌<◌, ◌≤◌, Bool, true, false, List, length, get_or, nat_le, nat_lt, ◌&&◌, ◌⊎◌, inl, inr, refl, sym, subst, ◌∙◌, cond, arith, if◌then◌else◌}
+use Rattle.std.proofs.Common.{◌≡◌, ℕ, ◌+◌, ◌-◌, ◌*◌, ◌<◌, ◌≤◌, List, length, ◌⊎◌, inl, inr, refl, sym, subst, arith}
 use Rattle.std.proofs.Math.Nat.{mul-le-mul_left}
-use Rattle.std.proofs.lemmas.Bool.{cases_lt, cases_eq}
+use Rattle.std.proofs.lemmas.Bool.{cases_lt}
 use Rattle.std.proofs.lemmas.Bool.Decides.{nat_tests}
 use Rattle.ec_field.specs.Code.{IsCode}
-use Rattle.ec_run.specs.File.{File, written, stripe_of, piece, fragment_at, IsCoded, IsFile}
+use Rattle.ec_run.specs.File.{File, written, stripe_of, piece, fragment_at, IsCoded}
 use Rattle.ec_run.specs.Stripes.{file_of, SamePieces, ArePut}
 use Rattle.ec_run.proofs.FileLemmas.{same_stripes, byte_outside, byte_inside}
 
@@ -56,6 +56,13 @@ coded_after n k algorithm first count off bytes old new file place whole put cod
             (subst (λ x. IsCode k algorithm b (stripe_of k file s) x) (sym (put.past b s past)) (coded b is_brick s))
       ]
     ]
+
+-- where no bytes are written, nothing changes
+pub coded_after_none : (n k algorithm first off : ℕ) (bytes : List ℕ) (bricks : List (List (List ℕ))) (file : File) → 512 * (k * first) ≡ off → length bytes ≡ 0
+    → IsCoded n k algorithm bricks file → IsCoded n k algorithm bricks (written file off bytes)
+coded_after_none n k algorithm first off bytes bricks file place none coded =
+    coded_after n k algorithm first 0 off bytes bricks bricks file place (omega arith)
+    (record { codes = λ b l t h. absurd (omega arith); before = λ b s l. refl; past = λ b s l. refl }) coded
 
 -- bricks with the same pieces hold the codes of the same files
 pub coded_by_pieces : (n k algorithm : ℕ) (old new : List (List (List ℕ))) (file : File) → SamePieces old new → IsCoded n k algorithm old file → IsCoded n k algorithm new file

@@ -1,11 +1,10 @@
 -- Fragments, their pieces and their bricks.
-use Rattle.std.proofs.Common.{◌≡◌, ◌≢◌, ℕ, ◌+◌, ◌<◌, ◌≤◌, List, [], ◌∷◌, ◌++◌, length, get_or, ◌⊎◌, inl, inr, refl, sym, ap, ◌∙◌, arith, length-append}
-use Rattle.std.specs.Prelude.{slice_set}
+use Rattle.std.proofs.Common.{[], ◌≡◌, ℕ, ◌+◌, List, ◌∷◌, ◌++◌, length, inl, inr, sym, ◌∙◌, arith, length-append}
 use Rattle.std.proofs.lemmas.Bool.{cases_lt, cases_eq}
-use Rattle.std.proofs.lemmas.List.{get_or_append_left, get_or_past, get_or-set_same, get_or-set_other, length-set}
+use Rattle.std.proofs.lemmas.List.{get_or_append_left, get_or_past}
 use Rattle.std.proofs.Math.Seq.{get_or-append_seam}
 use Rattle.ec_field.specs.Chunk.{zero_chunk}
-use Rattle.ec_run.specs.File.{piece, fragment_at}
+use Rattle.ec_run.specs.File.{piece}
 
 -- a chunk of zeros at the end changes no piece
 pub piece_grown : (fragment : List (List ℕ)) (s : ℕ) → piece (fragment ++ zero_chunk ∷ []) s ≡ piece fragment s

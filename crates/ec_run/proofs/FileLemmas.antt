@@ -1,10 +1,10 @@
 -- The flat file, byte by byte, and its stripes.
-use Rattle.std.proofs.Common.{◌≡◌, ℕ, zero, suc, ◌+◌, ◌-◌, ◌*◌, ◌^◌, ◌<◌, ◌≤◌, Bool, true, false, ◌&&◌, List, [], ◌∷◌, ◌++◌, length, map, take, drop, get_or, nat_le, nat_lt, ◌⊎◌, inl, inr, refl, sym, ap, subst, ◌∙◌, cond, arith, lit<, add-one, add-zero, add-suc, add_assoc, length-append}
+use Rattle.std.proofs.Common.{[], ◌≡◌, ℕ, zero, suc, ◌+◌, ◌-◌, ◌*◌, ◌^◌, ◌<◌, ◌≤◌, true, false, ◌&&◌, List, ◌∷◌, ◌++◌, length, take, drop, get_or, nat_le, nat_lt, ◌⊎◌, inl, inr, refl, sym, ap, subst, ◌∙◌, arith, lit<}
 use Rattle.std.specs.List.{range_with_len}
-use Rattle.std.proofs.lemmas.Bool.{cases_lt, cases_Bool, and_parts, and_from, and_left, and_right}
+use Rattle.std.proofs.lemmas.Bool.{cases_lt}
 use Rattle.std.proofs.lemmas.Bool.Decides.{nat_tests}
 use Rattle.std.proofs.lemmas.Grind.{same_number_lists}
-use Rattle.std.proofs.lemmas.List.{ext_get_or, get_or-take, get_or-drop, get_or_past, get_or-replicate, length-replicate, length-take-le, length-drop, map-append}
+use Rattle.std.proofs.lemmas.List.{ext_get_or, get_or-take, get_or-drop, get_or_past, get_or-replicate, length-take-le, length-drop, map-append}
 use Rattle.std.proofs.lemmas.List.FromFn.{length-map-range_with_len, get_or-map-range_with_len}
 use Rattle.ec_field.specs.Chunk.{element, zero_chunk, IsChunk}
 use Rattle.ec_field.specs.Field.{product, IsByte}
@@ -12,8 +12,8 @@ use Rattle.ec_field.specs.Code.{IsCode, IsStripe, chunk_at, plain_entry, IsRow}
 use Rattle.ec_field.proofs.Sums.{sum_zeros}
 use Rattle.ec_field.proofs.Powers.{power_is_byte}
 use Rattle.ec_field.proofs.Products.{product-zero_right}
-use Rattle.ec_field.proofs.Elements.{element-zeros, zero_is_chunk}
-use Rattle.ec_run.specs.File.{File, empty_file, written, bytes_from, chunk_of, stripe_of, piece, fragment_at, IsCoded, IsCodedAt, IsFile}
+use Rattle.ec_field.proofs.Elements.{element-zeros}
+use Rattle.ec_run.specs.File.{File, empty_file, written, bytes_from, chunk_of, stripe_of, piece, fragment_at, IsCoded, IsFile}
 use Rattle.ec_run.specs.Stripes.{file_of}
 
 -- bytes of a file

@@ -1,5 +1,5 @@
 -- Reads of whole stripes.
-use Rattle.std.proofs.Common.{◌≡◌, ◌≢◌, ℕ, ◌+◌, ◌*◌, ◌/◌, ◌%◌, ◌<◌, ◌≤◌, Bool, true, false, List, [], length, get_or, inl, inr, refl, sym, ap, subst, ◌∙◌, arith, ◌++◌, append_assoc}
+use Rattle.std.proofs.Common.{[], ◌≡◌, ℕ, ◌+◌, ◌*◌, ◌/◌, ◌%◌, ◌<◌, Bool, true, false, List, length, get_or, inl, inr, refl, sym, ap, subst, ◌∙◌, arith, ◌++◌, append_assoc}
 use Rattle.std.specs.Prelude.{slice_set}
 use Rattle.std.proofs.Math.Nat.{div-add-mod}
 use Rattle.std.proofs.lemmas.Bool.{cases_eq}
@@ -8,7 +8,7 @@ use Rattle.ec_field.specs.Code.{IsCode, chunk_at}
 use Rattle.ec_attr.specs.Bricks.{bricks, bricks_below, count_below, is_in}
 use Rattle.ec_attr.proofs.Sets.{bricks_more_out, count_more_in, count_more_out, entry_before, entry_at, count_grows, len, each}
 use Rattle.ec_stripe.specs.Codes.{AreCodes}
-use Rattle.ec_run.specs.File.{File, bytes_from, chunk_of, stripe_of, piece, fragment_at, IsCodedAt}
+use Rattle.ec_run.specs.File.{File, bytes_from, stripe_of, piece, fragment_at, IsCodedAt}
 use Rattle.ec_run.proofs.FileLemmas.{bytes_joined, chunk_of_stripe}
 
 -- the pieces of the bricks below m that pass a test stand in their places

@@ -91,7 +91,8 @@ fn put_stripes<T: RowTimes>(
     }
 }
 
-/// Writes whole stripes from byte `off` on. All memory is taken before the first chunk changes.
+/// Writes whole stripes from byte `off` on. All memory is taken before the first chunk changes, so that a write that
+/// fails has changed no piece.
 pub fn write_stripes<T: RowTimes>(
     rows: &T,
     g: &Geometry,
@@ -110,6 +111,9 @@ pub fn write_stripes<T: RowTimes>(
     ensures err { OnErr result ((file : File) → IsCoded g.now.n (g.now.n - g.now.r) g.now.algorithm bricks.old.items file
         → IsCoded g.now.n (g.now.n - g.now.r) g.now.algorithm bricks.new.items file) }
 {
+    if bytes.is_empty() {
+        return Ok(());
+    }
     let size = 512 * usize::from(g.k());
     let first = off as usize / size;
     let count = bytes.len() / size;

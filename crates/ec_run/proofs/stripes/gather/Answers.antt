@@ -1,8 +1,8 @@
-use Rattle.std.proofs.Common.{◌≡◌, ◌<◌, ◌≤◌, ◌+◌, ℕ, true, false, [], length, get_or, refl, sym, ap, subst, ◌∙◌, arith}
+use Rattle.std.proofs.Common.{◌≡◌, ◌<◌, ◌+◌, true, false, [], length, get_or, refl, sym, ap, subst, ◌∙◌, arith}
 use Rattle.std.proofs.lemmas.List.{get_or_default, length-set}
-use Rattle.ec_attr.specs.Bricks.{count_below, is_in}
+use Rattle.ec_attr.specs.Bricks.{is_in}
 use Rattle.ec_attr.proofs.Sets.{count_none, count_more_in, count_more_out, count_grows, len, most}
-use Rattle.ec_run.specs.File.{piece, fragment_at}
+use Rattle.ec_run.specs.File.{piece}
 use Rattle.ec_run.proofs.ReadLemmas.{AreGathered, gathered_in, gathered_out, counted}
 use Rattle.ec_run.proofs.stripes.gather.Goals as goal
 use Rattle.ec_run.proofs.stripes.gather.Goals.{then-has, else-has}

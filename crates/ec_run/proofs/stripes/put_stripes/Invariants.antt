@@ -1,4 +1,4 @@
-use Rattle.std.proofs.Common.{◌≡◌, ◌+◌, ◌-◌, length, vec_len}
+use Rattle.std.proofs.Common.{◌≡◌, ◌+◌, length, vec_len}
 use Rattle.ec_run.specs.Stripes.{HasRoom, ArePut}
 use Rattle.ec_run.proofs.stripes.put_stripes.Given as goal
 

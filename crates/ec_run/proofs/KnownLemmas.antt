@@ -3,7 +3,7 @@ use Rattle.std.proofs.Common.{◌≡◌, ℕ, ◌-◌, List, [], ◌++◌, None,
 use Rattle.std.proofs.KnownBytes.{Consumes-trans, Appends-nil}
 use Rattle.ec_run.specs.Outside.{Begins}
 use Rattle.std.proofs.lemmas.List.{take_rest}
-use Rattle.std.specs.Io.KnownBytes.{Consumes, IsAtEnd, Keeps, Appends, prepend_known}
+use Rattle.std.specs.Io.KnownBytes.{Consumes, prepend_known}
 
 -- bytes that came into an empty buffer
 pub consumes_filled : (old new : Option (List ℕ)) (held : List ℕ) → Consumes old new held → Consumes (prepend_known [] old) (prepend_known held new) []
@@ -26,8 +26,8 @@ pub consumes_front : (old now left : Option (List ℕ)) (front held : List ℕ) 
     → Consumes old (prepend_known (drop n held) left) (front ++ take n held)
 consumes_front old now left front held n first same =
     Consumes-trans old (prepend_known held left) (prepend_known (drop n held) left) front (take n held)
-      (rw append-nil at (Consumes-trans old now (prepend_known held left) front [] first same))
-      (consumes_taken left held n)
+    (rw append-nil at (Consumes-trans old now (prepend_known held left) front [] first same))
+    (consumes_taken left held n)
 
 -- nothing is written of a text
 pub begins_nothing : (now : Option (List ℕ)) (text : List ℕ) → Begins now now text

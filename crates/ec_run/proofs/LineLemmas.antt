@@ -1,6 +1,6 @@
 -- Lines of an input that is read from its front.
-use Rattle.std.proofs.Common.{◌≡◌, ℕ, zero, suc, ◌+◌, ◌-◌, ◌<◌, ◌≤◌, List, [], ◌∷◌, ◌++◌, None, Some, Option, length, take, drop, get_or, Bool, true, false, refl, sym, ap, ◌∙◌, subst, append_assoc, append-nil, take-append-drop, length-append, arith}
-use Rattle.std.specs.Prelude.{All, nat_eq, ◌==◌, not, MatchBool}
+use Rattle.std.proofs.Common.{◌≡◌, ℕ, suc, ◌+◌, ◌-◌, ◌<◌, List, [], ◌∷◌, ◌++◌, None, Some, Option, length, take, drop, get_or, Bool, true, false, refl, sym, ap, ◌∙◌, append_assoc, append-nil, take-append-drop, length-append, arith}
+use Rattle.std.specs.Prelude.{nat_eq, ◌==◌, not, MatchBool}
 use Rattle.std.specs.List.{onto_first, position_or_len, before_first, after_first}
 use Rattle.std.proofs.lemmas.List.Elements.{All-append}
 use Rattle.std.proofs.lemmas.List.Sums.{fails_before_first, passes_at_first}
@@ -8,7 +8,7 @@ use Rattle.std.proofs.lemmas.List.Folds.{length-prefix_len}
 use Rattle.std.proofs.lemmas.List.{get_or-take, drop_more}
 use Rattle.std.proofs.lemmas.Bool.{eqb-true}
 use Rattle.std.proofs.Math.Dec.{eqb-suc-zero}
-use Rattle.std.specs.Io.KnownBytes.{Consumes, IsAtEnd, Keeps, prepend_known}
+use Rattle.std.specs.Io.KnownBytes.{Consumes, IsAtEnd, prepend_known}
 use Rattle.ec_run.specs.Lines.{lines, HasNoNewline, HasNoLine, TakesLine, BeginsLong}
 
 first_byte : (b : ℕ) (bs : List ℕ) → HasNoNewline (b ∷ bs) → nat_eq b 10 ≡ false
@@ -70,7 +70,7 @@ no_newline_held held k d h =
 pub no_newline_before : (line held : List ℕ) → HasNoNewline line → HasNoNewline (line ++ before_first (λ b. nat_eq b 10) held)
 no_newline_before line held inner =
     All-append (λ b. nat_eq b 10 ≡ false) line (before_first (λ b. nat_eq b 10) held) inner
-      (no_newline_held held)
+    (no_newline_held held)
 
 -- the input by the bytes so far, those that are held and those that are left
 parts_of : (xs ws ys line held : List ℕ) (n : ℕ) → xs ≡ line ++ ws → ws ≡ held ++ ys → xs ≡ (line ++ take n held) ++ (drop n held ++ ys)
@@ -91,7 +91,7 @@ begins_long n (Some xs) (Some ws) (Some ys) line held first same inner long =
     let size : length front ≡ length line + position_or_len p held = length-append line (before_first p held) ∙ ap (λ m. length line + m) (length_before held) in
     let more : n < length front = omega arith in
     rw (parts_of xs ws ys line held (position_or_len p held) first same)
-      (lines-longer front (drop (position_or_len p held) held ++ ys) n (no_newline_before line held inner) more)
+    (lines-longer front (drop (position_or_len p held) held ++ ys) n (no_newline_before line held inner) more)
 
 -- a newline ends the line
 pub takes_line : (old now left : Option (List ℕ)) (line held : List ℕ) → Consumes old now line → Consumes now (prepend_known held left) []
@@ -104,5 +104,5 @@ takes_line (Some xs) (Some ws) (Some ys) line held first same inner ended =
     let p = λ (b : ℕ). nat_eq b 10 in
     let newline : get_or held (position_or_len p held) 0 ≡ 10 = eqb-true (get_or held (position_or_len p held) 0) 10 (passes_at_first p held 0 ended) in
     let rest : drop (position_or_len p held) held ≡ 10 ∷ after_first p held =
-          drop_more held (position_or_len p held) 0 ended ∙ ap (λ b. b ∷ after_first p held) newline in
+    drop_more held (position_or_len p held) 0 ended ∙ ap (λ b. b ∷ after_first p held) newline in
     ap lines (parts_of xs ws ys line held (position_or_len p held) first same ∙ ap (λ r. (line ++ before_first p held) ++ (r ++ ys)) rest) ∙ lines-front (line ++ before_first p held) (after_first p held ++ ys) (no_newline_before line held inner)

@@ -1,9 +1,9 @@
 -- The steps of a script.
-use Rattle.std.proofs.Common.{◌≡◌, ℕ, zero, suc, ◌+◌, ◌<◌, ◌≤◌, true, false, List, [], ◌∷◌, ◌++◌, Option, Some, None, length, refl, sym, ap, ◌∙◌, subst, append_assoc, append-nil, arith}
-use Rattle.std.specs.Prelude.{option_and_then, option_map, nat_lt, ◌||◌, if◌then◌else◌}
+use Rattle.std.proofs.Common.{◌≡◌, ℕ, suc, ◌+◌, ◌<◌, ◌≤◌, List, [], ◌∷◌, ◌++◌, Option, Some, None, length, refl, ap, ◌∙◌, arith}
+use Rattle.std.specs.Prelude.{option_and_then, nat_lt}
 use Rattle.std.proofs.lemmas.Bool.{le-ltb, lt-ltb}
 use Rattle.std.proofs.Math.Bool.{or-true}
-use Rattle.ec_run.specs.Play.{State, Stepped, step_read, step_line, extended, steps, nothing_done}
+use Rattle.ec_run.specs.Play.{State, Stepped, step_read, step_line, extended, steps}
 use Rattle.ec_run.specs.Script.{event_of}
 use Rattle.ec_run.specs.declared.script.Event.{Event}
 
@@ -34,12 +34,12 @@ steps_more n k [] line done number =
     and_then_some (extended n k done number line) ∙ ap (λ m. extended n k done m line) (let e : number ≡ number + 0 = omega arith in e)
 steps_more n k (l ∷ ls) line done number =
     let P : Option Stepped → Type 0 = λ o.
-          option_and_then (λ after. steps n k (ls ++ line ∷ []) after (number + 1)) o
-          ≡ option_and_then (λ after. extended n k after (number + suc (length ls)) line) (option_and_then (λ after. steps n k ls after (number + 1)) o) in
+    option_and_then (λ after. steps n k (ls ++ line ∷ []) after (number + 1)) o
+    ≡ option_and_then (λ after. extended n k after (number + suc (length ls)) line) (option_and_then (λ after. steps n k ls after (number + 1)) o) in
     let place : number + 1 + length ls ≡ number + suc (length ls) = omega arith in
     elim (extended n k done number l) as P [
-      None ↦ refl
-    | Some after ↦
-        steps_more n k ls line after (number + 1)
-        ∙ ap (λ m. option_and_then (λ later. extended n k later m line) (steps n k ls after (number + 1))) place
+      | None ↦ refl
+      | Some after ↦
+          steps_more n k ls line after (number + 1)
+          ∙ ap (λ m. option_and_then (λ later. extended n k later m line) (steps n k ls after (number + 1))) place
     ]

@@ -1,5 +1,5 @@
 -- A run between two lines, and its ends.
-use Rattle.std.proofs.Common.{◌≡◌, ℕ, zero, suc, ◌+◌, ◌<◌, ◌≤◌, ◌⊎◌, inl, inr, List, [], ◌∷◌, ◌++◌, Option, Some, None, length, refl, sym, ap, ◌∙◌, subst, append_assoc, append-nil, length-append, arith}
+use Rattle.std.proofs.Common.{◌≡◌, ℕ, ◌+◌, ◌<◌, inl, inr, List, [], ◌∷◌, ◌++◌, Option, Some, None, length, refl, sym, ap, ◌∙◌, append_assoc, append-nil, length-append, arith}
 use Rattle.std.specs.Prelude.{IfSome, option_and_then, option_map}
 use Rattle.std.specs.List.{onto_first}
 use Rattle.std.proofs.lemmas.Bool.{cases_eq, eq-eqb, ne_eqb}
@@ -13,8 +13,8 @@ use Rattle.ec_run.specs.File.{File, IsCoded}
 use Rattle.ec_run.specs.Lines.{lines, HasNoLine, HasLine, TakesLine, BeginsLong}
 use Rattle.ec_run.specs.Outside.{Begins}
 use Rattle.ec_run.specs.Play.{State, Stepped, start, nothing_done, steps, step_line, extended, open_text}
-use Rattle.ec_run.specs.Player.{Stands, Obeys, Refuses, Fails}
-use Rattle.ec_run.specs.Run.{Ends, Reached, IsWhole, IsObeyed, IsBad, IsBroken, whole_text}
+use Rattle.ec_run.specs.Player.{Stands, Obeys, Fails}
+use Rattle.ec_run.specs.Run.{Ends, IsBroken}
 use Rattle.ec_run.specs.Going.{Goes, Finishes}
 use Rattle.ec_run.proofs.PlayLemmas.{steps_more, step_beyond, step_long}
 
@@ -87,7 +87,8 @@ goes_next n k algorithm (Some input) (Some xs) (Some ys) old was written s numbe
         after_line goes.0 (lines ys) (lines input) (lines xs) line goes.2 takes,
         longer,
         steps_next n k goes.0 line goes.1 s number made.0 goes.3 goes.4 made.1,
-        Appends-trans old was written goes.1 made.0.text goes.5 made.3)
+        Appends-trans old was written goes.1 made.0.text goes.5 made.3,
+      );
     }
 
 -- ---- the ends
@@ -99,12 +100,14 @@ pub ends_done : (n k algorithm : ℕ) (input now old was written : Option (List 
 ends_done n k algorithm None now old was written s number player bricks goes stands last told = tt
 ends_done n k algorithm (Some input) None old was written s number player bricks goes stands last told = absurd goes
 ends_done n k algorithm (Some input) (Some xs) old was written s number player bricks goes stands last told =
-    let all : lines input ≡ goes.0 = goes.2 ∙ ap (λ rest. goes.0 ++ rest) last ∙ append-nil goes.0 in
-    (record { state = s; text = goes.1 }, record {
-      steps = ap (λ ls. steps n k ls nothing_done 1) all ∙ goes.4;
-      text = Appends-trans old was written goes.1 (open_text s.calls s.waiting) goes.5 (rw (← stands.calls, ← stands.waiting) told);
-      coded = stands.coded
-    })
+    let all : lines input ≡ goes.0 = goes.2 ∙ ap (λ rest. goes.0 ++ rest) last ∙ append-nil goes.0 in (
+      record { state = s; text = goes.1 },
+      record {
+        steps = ap (λ ls. steps n k ls nothing_done 1) all ∙ goes.4;
+        text = Appends-trans old was written goes.1 (open_text s.calls s.waiting) goes.5 (rw (← stands.calls, ← stands.waiting) told);
+        coded = stands.coded;
+      },
+    )
 
 -- the next line can't be obeyed
 pub ends_bad : (n k algorithm : ℕ) (input now old was written : Option (List ℕ)) (s : State) (number : ℕ) (why : ScriptWhy) (bricks : List (List (List ℕ)))
@@ -112,14 +115,18 @@ pub ends_bad : (n k algorithm : ℕ) (input now old was written : Option (List �
     → IfSome input (λ xs. Ends n k algorithm (BadScript number why) xs old written bricks)
 ends_bad n k algorithm None now old was written s number why bricks goes bad kept coded = tt
 ends_bad n k algorithm (Some input) None old was written s number why bricks goes bad kept coded = absurd goes
-ends_bad n k algorithm (Some input) (Some xs) old was written s number why bricks goes bad kept coded =
-    (goes.0, bad.0, bad.1, record { state = s; text = goes.1 },
-      record {
-        reached = record { parts = goes.2 ∙ ap (λ rest. goes.0 ++ rest) bad.2; steps = goes.4 };
-        text = Appends-kept old was written goes.1 goes.5 kept;
-        coded = coded
-      },
-      record { number = goes.3; refused = bad.3 })
+ends_bad n k algorithm (Some input) (Some xs) old was written s number why bricks goes bad kept coded = (
+  goes.0,
+  bad.0,
+  bad.1,
+  record { state = s; text = goes.1 },
+  record {
+    reached = record { parts = goes.2 ∙ ap (λ rest. goes.0 ++ rest) bad.2; steps = goes.4 };
+    text = Appends-kept old was written goes.1 goes.5 kept;
+    coded = coded;
+  },
+  record { number = goes.3; refused = bad.3 },
+)
 
 -- a fault of the source
 pub ends_unread : (n k algorithm : ℕ) (input now old was : Option (List ℕ)) (s : State) (number : ℕ) (bricks : List (List (List ℕ)))
@@ -143,12 +150,16 @@ pub broken_here : (n k algorithm : ℕ) (input now old was written : Option (Lis
     → Goes n k input now old was s number → Keeps was written → IsCoded n k algorithm bricks s.file → IfSome input (λ xs. Broken n k algorithm xs old written bricks)
 broken_here n k algorithm None now old was written s number bricks goes kept coded = tt
 broken_here n k algorithm (Some input) None old was written s number bricks goes kept coded = absurd goes
-broken_here n k algorithm (Some input) (Some xs) old was written s number bricks goes kept coded =
-    (goes.0, lines xs, record { state = s; text = goes.1 }, record {
-      reached = record { parts = goes.2; steps = goes.4 };
-      text = (goes.1, open_text s.calls s.waiting, refl, Appends-kept old was written goes.1 goes.5 kept);
-      coded = coded
-    })
+broken_here n k algorithm (Some input) (Some xs) old was written s number bricks goes kept coded = (
+  goes.0,
+  lines xs,
+  record { state = s; text = goes.1 },
+  record {
+    reached = record { parts = goes.2; steps = goes.4 };
+    text = (goes.1, open_text s.calls s.waiting, refl, Appends-kept old was written goes.1 goes.5 kept);
+    coded = coded;
+  },
+)
 
 -- the answer of a line is written in part
 pub broken_line : (n k algorithm : ℕ) (input now later old was written : Option (List ℕ)) (s : State) (number : ℕ) (line : List ℕ) (bricks : List (List (List ℕ)))
@@ -161,19 +172,24 @@ broken_line n k algorithm (Some input) (Some xs) (Some ys) old was written s num
     broken_here n k algorithm (Some input) (Some xs) old was written s number bricks goes kept.0 kept.1
 broken_line n k algorithm (Some input) (Some xs) (Some ys) old was written s number line bricks goes takes (inr made) =
     let stepped : Stepped = made.0 in
-    let opened : List ℕ = open_text stepped.state.calls stepped.state.waiting in
-    (goes.0 ++ line ∷ [], lines ys, record { state = stepped.state; text = goes.1 ++ stepped.text }, record {
-      reached = record {
-        parts = after_line goes.0 (lines ys) (lines input) (lines xs) line goes.2 takes;
-        steps = steps_next n k goes.0 line goes.1 s number stepped goes.3 goes.4 made.1
-      };
-      text = (
-        goes.1 ++ made.2.0,
-        made.2.1 ++ opened,
-        parts_of_text goes.1 stepped.text opened made.2.0 made.2.1 made.2.2,
-        Appends-trans old was written goes.1 made.2.0 goes.5 made.2.3);
-      coded = made.3
-    })
+    let opened : List ℕ = open_text stepped.state.calls stepped.state.waiting in (
+      goes.0 ++ line ∷ [],
+      lines ys,
+      record { state = stepped.state; text = goes.1 ++ stepped.text },
+      record {
+        reached = record {
+          parts = after_line goes.0 (lines ys) (lines input) (lines xs) line goes.2 takes;
+          steps = steps_next n k goes.0 line goes.1 s number stepped goes.3 goes.4 made.1;
+        };
+        text = (
+          goes.1 ++ made.2.0,
+          made.2.1 ++ opened,
+          parts_of_text goes.1 stepped.text opened made.2.0 made.2.1 made.2.2,
+          Appends-trans old was written goes.1 made.2.0 goes.5 made.2.3,
+        );
+        coded = made.3;
+      },
+    )
 
 -- the line of the call without an answer is written in part
 pub broken_end : (n k algorithm : ℕ) (input now old was written : Option (List ℕ)) (s : State) (number : ℕ) (player : Player) (bricks : List (List (List ℕ)))
@@ -182,16 +198,21 @@ pub broken_end : (n k algorithm : ℕ) (input now old was written : Option (List
 broken_end n k algorithm None now old was written s number player bricks goes stands begun = tt
 broken_end n k algorithm (Some input) None old was written s number player bricks goes stands begun = absurd goes
 broken_end n k algorithm (Some input) (Some xs) old was written s number player bricks goes stands begun =
-    let told : open_text s.calls s.waiting ≡ begun.0 ++ begun.1 = rw (← stands.calls, ← stands.waiting) begun.2 in
-    (goes.0, lines xs, record { state = s; text = goes.1 }, record {
-      reached = record { parts = goes.2; steps = goes.4 };
-      text = (
-        goes.1 ++ begun.0,
-        begun.1,
-        ap (λ t. goes.1 ++ t) told ∙ sym (append_assoc goes.1 begun.0 begun.1),
-        Appends-trans old was written goes.1 begun.0 goes.5 begun.3);
-      coded = stands.coded
-    })
+    let told : open_text s.calls s.waiting ≡ begun.0 ++ begun.1 = rw (← stands.calls, ← stands.waiting) begun.2 in (
+      goes.0,
+      lines xs,
+      record { state = s; text = goes.1 },
+      record {
+        reached = record { parts = goes.2; steps = goes.4 };
+        text = (
+          goes.1 ++ begun.0,
+          begun.1,
+          ap (λ t. goes.1 ++ t) told ∙ sym (append_assoc goes.1 begun.0 begun.1),
+          Appends-trans old was written goes.1 begun.0 goes.5 begun.3,
+        );
+        coded = stands.coded;
+      },
+    )
 
 -- ---- lines that can't be obeyed
 
@@ -216,10 +237,10 @@ onto_some b (part ∷ parts) = (b ∷ part, parts, refl)
 some_line : (b : ℕ) (bs : List ℕ) → (line : List ℕ) × (others : List (List ℕ)) × (lines (b ∷ bs) ≡ line ∷ others)
 some_line b bs =
     elim (cases_eq b 10) [
-      inl newline ↦ ([], lines bs, rw (eq-eqb b 10 newline) refl)
-    | inr other ↦
-        let first = onto_some b (lines bs) in
-        (first.0, first.1, rw (ne_eqb b 10 other) first.2)
+      | inl newline ↦ ([], lines bs, rw (eq-eqb b 10 newline) refl)
+      | inr other ↦
+          let first = onto_some b (lines bs) in
+          (first.0, first.1, rw (ne_eqb b 10 other) first.2)
     ]
 
 pub held_line : (held : List ℕ) (left : Option (List ℕ)) → 0 < length held → HasLine (prepend_known held left)

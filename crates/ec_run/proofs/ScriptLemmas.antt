@@ -1,6 +1,6 @@
 -- The words of a line, and the bricks of a read.
-use Rattle.std.proofs.Common.{◌≡◌, ℕ, suc, ◌+◌, ◌-◌, ◌*◌, ◌<◌, ◌≤◌, ◌^◌, ◌%◌, ◌⊎◌, inl, inr, Bool, true, false, ◌&&◌, ◌||◌, List, [], ◌∷◌, ◌++◌, Option, Some, None, length, take, get_or, refl, sym, ap, ◌∙◌, subst, arith, zero-add, lit<}
-use Rattle.std.specs.Prelude.{map, nat_eq, nat_le, nat_lt, if◌then◌else◌}
+use Rattle.std.proofs.Common.{◌≡◌, ℕ, suc, ◌+◌, ◌*◌, ◌<◌, ◌≤◌, ◌^◌, ◌%◌, inl, inr, ◌||◌, List, [], ◌∷◌, Option, Some, None, length, take, refl, sym, ap, ◌∙◌, arith, zero-add, lit<}
+use Rattle.std.specs.Prelude.{nat_eq}
 use Rattle.std.specs.Int.{bit_at}
 use Rattle.std.specs.Prelude.{option_and_then}
 use Rattle.std.proofs.lemmas.List.{length-map, get_or-map, take_all, length-take-le}
@@ -12,7 +12,6 @@ use Rattle.std.proofs.Math.Nat.{one-mul, pow-suc, pow-le-pow_right, mod-eq_of_lt
 use Rattle.std.proofs.lemmas.Nat.Bits.{bit_at_xor, bit_at-pow_same, bit_at-pow_other, bit_at_above, bit_at-lt}
 use Rattle.ec_run.specs.Split.{pieces, without_return}
 use Rattle.ec_run.specs.Split as split
-use Rattle.ec_run.specs.Numbers.{number_of}
 use Rattle.ec_attr.specs.Bricks.{is_in}
 use Rattle.ec_attr.proofs.Sets as sets
 use Rattle.ec_run.specs.Script.{brick_of, rising_bits, event_of, event_of_words, call_of}
@@ -29,14 +28,14 @@ bit_of_plus bits b c small =
 is_in_above : (bits b c : ℕ) → bits < 2 ^ b → is_in (bits + 2 ^ b) c ≡ (nat_eq c b || is_in bits c)
 is_in_above bits b c small =
     elim (cases_eq c b) [
-      inl same ↦
-        let here : bit_at (bits + 2 ^ b) c ≡ 1 =
-              bit_of_plus bits b c small ∙ rw (same, bit_at-pow_same b, bit_at_above bits b b small (omega arith)) refl in
-        rw (eq-eqb c b same, here) refl
-    | inr other ↦
-        let here : bit_at (bits + 2 ^ b) c ≡ bit_at bits c =
-              bit_of_plus bits b c small ∙ rw (bit_at-pow_other b c other) (rw (zero-add (bit_at bits c)) (mod-eq_of_lt (bit_at-lt bits c))) in
-        rw (ne_eqb c b other, here) refl
+      | inl same ↦
+          let here : bit_at (bits + 2 ^ b) c ≡ 1 =
+          bit_of_plus bits b c small ∙ rw (same, bit_at-pow_same b, bit_at_above bits b b small (omega arith)) refl in
+          rw (eq-eqb c b same, here) refl
+      | inr other ↦
+          let here : bit_at (bits + 2 ^ b) c ≡ bit_at bits c =
+          bit_of_plus bits b c small ∙ rw (bit_at-pow_other b c other) (rw (zero-add (bit_at bits c)) (mod-eq_of_lt (bit_at-lt bits c))) in
+          rw (ne_eqb c b other, here) refl
     ]
 
 within : (bits b : ℕ) → bits < 2 ^ b → b < 31 → bits + 2 ^ b < 2 ^ 31
@@ -53,17 +52,21 @@ plus_above bits b new small below bound members =
 event_of_many : (n k : ℕ) (ws : List (List ℕ)) → 9 ≤ length ws → event_of_words n k ws ≡ None
 unfolding event_of_words call_of
 event_of_many n k ws many =
-    rw (ne_eqb (length ws) 0 (λ e. absurd (omega (arith, e, many))), ne_eqb (length ws) 1 (λ e. absurd (omega (arith, e, many))),
-        ne_eqb (length ws) 6 (λ e. absurd (omega (arith, e, many))), ne_eqb (length ws) 8 (λ e. absurd (omega (arith, e, many)))) refl
+    rw (
+      ne_eqb (length ws) 0 (λ e. absurd (omega (arith, e, many))),
+      ne_eqb (length ws) 1 (λ e. absurd (omega (arith, e, many))),
+      ne_eqb (length ws) 6 (λ e. absurd (omega (arith, e, many))),
+      ne_eqb (length ws) 8 (λ e. absurd (omega (arith, e, many))),
+    ) refl
 
 -- a line with nine words or more orders nothing
 pub event_of_few : (n k : ℕ) (ws : List (List ℕ)) → event_of_words n k (take 9 ws) ≡ event_of_words n k ws
 event_of_few n k ws =
     elim (cases_lt (length ws) 9) [
-      inl few ↦ ap (event_of_words n k) (take_all 9 ws (omega (arith, few)))
-    | inr many ↦
-        event_of_many n k (take 9 ws) (rw (length-take-le {A = List ℕ} 9 ws (omega (arith, many))) (omega arith))
-        ∙ sym (event_of_many n k ws (omega (arith, many)))
+      | inl few ↦ ap (event_of_words n k) (take_all 9 ws (omega (arith, few)))
+      | inr many ↦
+          event_of_many n k (take 9 ws) (rw (length-take-le {A = List ℕ} 9 ws (omega (arith, many))) (omega arith))
+          ∙ sym (event_of_many n k ws (omega (arith, many)))
     ]
 
 -- rising bricks, one part more
@@ -79,7 +82,7 @@ rising_next n part parts least bits = refl
 -- the rest of a word, a part less
 pub rising_part : (n least bits : ℕ) (word part : List ℕ) (rest : Option (List ℕ)) → slice_split (λ b. nat_eq b 44) word ≡ part ∷ pieces (λ b. nat_eq b 44) rest
     → rising_bits n (pieces (λ b. nat_eq b 44) (Some word)) least bits
-      ≡ option_and_then (λ b. rising_bits n (pieces (λ b. nat_eq b 44) rest) (b + 1) (bits + 2 ^ b)) (brick_of n least part)
+    ≡ option_and_then (λ b. rising_bits n (pieces (λ b. nat_eq b 44) rest) (b + 1) (bits + 2 ^ b)) (brick_of n least part)
 rising_part n least bits word part rest e = ap (λ parts. rising_bits n parts least bits) e ∙ rising_next n part (pieces (λ b. nat_eq b 44) rest) least bits
 
 -- the first nine words tell what a line orders

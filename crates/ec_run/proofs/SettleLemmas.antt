@@ -1,17 +1,16 @@
 -- A settle, as the player and the state before it say it.
-use Rattle.std.proofs.Common.{◌≡◌, ℕ, List, Option, Some, None, ◌⊎◌, inl, inr, refl, sym, ap, ◌∙◌, subst}
-use Rattle.std.specs.Io.KnownBytes.{Appends, Keeps}
+use Rattle.std.proofs.Common.{◌≡◌, ℕ, List, Option, Some, None, inl, inr, refl, sym, ◌∙◌, subst}
+use Rattle.std.specs.Io.KnownBytes.{Appends}
 use Rattle.std.proofs.KnownBytes.{Appends-nil}
 use Rattle.ec_attr.specs.Bricks.{is_in}
 use Rattle.std.specs.Prelude.{true, ◌<◌}
 use Rattle.std.proofs.lemmas.Bool.{lt-ltb}
 use Rattle.ec_run.specs.declared.player.Player.{Player}
 use Rattle.ec_run.specs.declared.script.Call.{Call}
-use Rattle.ec_run.specs.declared.script.Call.TheVariants.{Write, Read}
 use Rattle.ec_run.specs.declared.script.Event.TheVariants.{Settle}
-use Rattle.ec_run.specs.File.{File, IsFile, IsCoded, IsCodedAt, written, bytes_of}
+use Rattle.ec_run.specs.File.{File, IsFile, IsCoded, IsCodedAt}
 use Rattle.ec_run.specs.Outside.{Begins}
-use Rattle.ec_run.specs.Play.{State, Stepped, step_event, size_line, data_line, file_after, answer}
+use Rattle.ec_run.specs.Play.{State, step_event, file_after, answer}
 use Rattle.ec_run.specs.Player.{Stands, Obeys, Fails, IsSettled, IsHalfSettled}
 
 -- the bricks of a read have the code of the file
@@ -29,9 +28,10 @@ pub settled : (n k algorithm : ℕ) (player after : Player) (old new : List (Lis
 settled n k algorithm player after old new call was now s stands waits none calls size file done =
     let done_now = done stands.file stands.coded stands.size in
     let waiting : s.waiting ≡ Some call = sym stands.waiting ∙ waits in
-    rw waiting
-      (record { coded = done_now.0; file = file stands.file; size = size stands.size; waiting = none; calls = calls ∙ stands.calls },
-        subst (λ (calls : ℕ). Appends was now (answer s.file calls (Some call))) stands.calls done_now.1)
+    rw waiting (
+      record { coded = done_now.0; file = file stands.file; size = size stands.size; waiting = none; calls = calls ∙ stands.calls },
+      subst (λ (calls : ℕ). Appends was now (answer s.file calls (Some call))) stands.calls done_now.1,
+    )
 
 -- the call that waits is not settled, or its answer is written in part
 pub failed : (n k algorithm : ℕ) (player : Player) (old new : List (List (List ℕ))) (call : Call) (was now : Option (List ℕ)) (s : State)
@@ -41,12 +41,13 @@ pub failed : (n k algorithm : ℕ) (player : Player) (old new : List (List (List
 failed n k algorithm player old new call was now s stands waits broken =
     let waiting : s.waiting ≡ Some call = sym stands.waiting ∙ waits in
     elim (broken stands.file stands.coded stands.size) [
-      inl kept ↦ inl kept
-    | inr half ↦ inr (
+      | inl kept ↦ inl kept
+      | inr half ↦ inr (
         record { state = record { file = file_after s.file (Some call); waiting = None; calls = s.calls }; text = answer s.file s.calls (Some call) },
         rw waiting refl,
         subst (λ (calls : ℕ). Begins was now (answer s.file calls (Some call))) stands.calls half.0,
-        half.1)
+        half.1,
+      )
     ]
 
 -- where no call waits, a settle does nothing
@@ -55,6 +56,7 @@ pub settled_none : (n k algorithm : ℕ) (player after : Player) (bricks : List 
     → Obeys n k algorithm after bricks now now (step_event s Settle)
 settled_none n k algorithm player after bricks now s stands waits none calls size =
     let waiting : s.waiting ≡ None = sym stands.waiting ∙ waits in
-    rw waiting
-      (record { coded = stands.coded; file = stands.file; size = size ∙ stands.size; waiting = none; calls = calls ∙ stands.calls },
-        Appends-nil now)
+    rw waiting (
+      record { coded = stands.coded; file = stands.file; size = size ∙ stands.size; waiting = none; calls = calls ∙ stands.calls },
+      Appends-nil now,
+    )

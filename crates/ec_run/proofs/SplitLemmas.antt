@@ -1,7 +1,7 @@
 -- Places in a text, and the pieces around them.
-use Rattle.std.proofs.Common.{◌≡◌, ℕ, ◌+◌, ◌<◌, ◌≤◌, Bool, true, false, List, [], ◌∷◌, Option, Some, None, length, take, drop, get_or, refl, sym, ap, ◌∙◌, subst, arith, cond, ◌⊎◌, inl, inr, not}
+use Rattle.std.proofs.Common.{◌≡◌, ℕ, ◌+◌, ◌<◌, ◌≤◌, Bool, true, false, List, ◌∷◌, Option, Some, None, length, take, drop, get_or, sym, arith, inl, inr, not}
 use Rattle.std.specs.Prelude.{if◌then◌else◌, nat_lt}
-use Rattle.std.specs.List.{position_or_len, slice_split, before_first, after_first}
+use Rattle.std.specs.List.{position_or_len, slice_split}
 use Rattle.std.proofs.lemmas.List.Sums.{position_or_len_is, prefix_len-le-length, fails_before_first}
 use Rattle.std.proofs.lemmas.List.{take_all}
 use Rattle.std.proofs.lemmas.Bool.{cases_lt, lt-ltb, le-ltb}
@@ -22,11 +22,11 @@ pub pieces_around : (p : ℕ → Bool) (xs front : List ℕ) (place : ℕ) (rest
     → rest ≡ (if nat_lt place (length xs) then Some (drop (place + 1) xs) else None) → slice_split p xs ≡ front ∷ pieces p rest
 pieces_around p xs front place rest at front_is rest_is =
     elim (cases_lt place (length xs)) [
-      inl below ↦
-        let found : position_or_len p xs < length xs = rw (← at) below in
-        rw (rest_is, lt-ltb place (length xs) below, front_is, at) (slice_split_first p xs 0 found)
-    | inr above ↦
-        let whole : take place xs ≡ xs = take_all place xs above in
-        rw (rest_is, le-ltb place (length xs) above, front_is, whole)
+      | inl below ↦
+          let found : position_or_len p xs < length xs = rw (← at) below in
+          rw (rest_is, lt-ltb place (length xs) below, front_is, at) (slice_split_first p xs 0 found)
+      | inr above ↦
+          let whole : take place xs ≡ xs = take_all place xs above in
+          rw (rest_is, le-ltb place (length xs) above, front_is, whole)
           (slice_split_none p xs (λ k d l. fails_before_first p xs k d (omega (arith, at))))
     ]

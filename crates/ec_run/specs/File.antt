@@ -16,7 +16,7 @@ empty_file = record { size = 0; byte = λ at. 0 }
 abbrev pub written : File → ℕ → List ℕ → File
 written file off bytes = record {
   size = if nat_le file.size (off + length bytes) then off + length bytes else file.size;
-  byte = λ at. if nat_le off at && nat_lt at (off + length bytes) then slice_index bytes (at - off) else file.byte at
+  byte = λ at. if nat_le off at && nat_lt at (off + length bytes) then slice_index bytes (at - off) else file.byte at;
 }
 
 -- len bytes of the file from byte `off` on

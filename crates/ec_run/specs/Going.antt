@@ -5,7 +5,7 @@ use Rattle.ec_run.specs.Lines.{lines}
 use Rattle.ec_run.specs.Outside.{Begins}
 use Rattle.ec_run.specs.declared.status.Status.{Status}
 use Rattle.ec_run.specs.declared.status.Status.TheVariants as status
-use Rattle.ec_run.specs.Play.{State, Stepped, steps, nothing_done}
+use Rattle.ec_run.specs.Play.{State, steps, nothing_done}
 
 -- the lines before this number were obeyed, and their answers are written
 abbrev pub Goes : ℕ → ℕ → Option (List ℕ) → Option (List ℕ) → Option (List ℕ) → Option (List ℕ) → State → ℕ → Type 0

@@ -1,13 +1,12 @@
 -- A run in progress, of a volume of n bricks of which k suffice to read.
-use Rattle.std.specs.Prelude.{◌≡◌, ◌⊎◌, ◌+◌, ◌%◌, ◌≤◌, ◌^◌, ◌++◌, ℕ, List, length, Option, Some, None}
+use Rattle.std.specs.Prelude.{◌≡◌, ◌⊎◌, ◌+◌, ◌%◌, ◌≤◌, ◌^◌, ℕ, List, Option, Some, None}
 use Rattle.std.specs.Io.KnownBytes.{Appends, Keeps}
-use Rattle.ec_run.specs.Lines.{lines}
 use Rattle.ec_run.specs.Script.{WaitingFits, stripe_len}
 use Rattle.ec_run.specs.declared.script.Call.{Call}
 use Rattle.ec_run.specs.declared.player.Player.{Player}
 use Rattle.ec_run.specs.File.{File, IsCoded, IsFile}
 use Rattle.ec_run.specs.Outside.{Begins}
-use Rattle.ec_run.specs.Play.{State, file_after, answer, Stepped, steps, nothing_done}
+use Rattle.ec_run.specs.Play.{State, file_after, answer, Stepped}
 
 -- the player and the bricks stand for a state
 pub record Stands (n k algorithm : ℕ) (player : Player) (bricks : List (List (List ℕ))) (s : State) : Type 0 where

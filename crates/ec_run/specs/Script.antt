@@ -59,7 +59,7 @@ unfoldable pub call_of : ℕ → ℕ → List (List ℕ) → Option Call
 call_of n k ws =
     if nat_eq (length ws) 6 && is_call ws (codes "write") then write_of k (number_of (word_at ws 4)) (data_bytes (word_at ws 5))
     else if nat_eq (length ws) 8 && is_call ws (codes "read") && bytes_eq (word_at ws 6) (codes "via")
-        then read_of k (number_of (word_at ws 4)) (number_of (word_at ws 5)) (bricks_of n k (word_at ws 7))
+    then read_of k (number_of (word_at ws 4)) (number_of (word_at ws 5)) (bricks_of n k (word_at ws 7))
     else None
 
 -- the event of a call

@@ -1,5 +1,5 @@
 -- Texts that are divided by a byte or by blanks.
-use Rattle.std.specs.Prelude.{ℕ, zero, suc, ◌-◌, Bool, ◌||◌, not, List, [], length, take, filter, nat_eq, slice_index, Option, Some, None, if◌then◌else◌}
+use Rattle.std.specs.Prelude.{ℕ, suc, ◌-◌, Bool, ◌||◌, not, List, [], length, take, filter, nat_eq, slice_index, Option, Some, None, if◌then◌else◌}
 use Rattle.std.specs.List.{slice_split}
 
 -- a space or a tab

@@ -45,7 +45,12 @@ fn open_line(alloc: Global, call: u64) -> Result<String, AllocError>
 }
 
 /// Writes the answer to a write: the size after it, in bytes.
-pub fn write_size<O: Sink>(alloc: Global, call: u64, size: u64, out: &mut O) -> Result<(), WriteError>
+pub fn write_size<O: Sink>(
+    alloc: Global,
+    call: u64,
+    size: u64,
+    out: &mut O,
+) -> Result<(), WriteError>
     ensures all { OnOk result (Appends (O.written out.old) (O.written out.new) (size_line call size)) }
     ensures part { OnErr result (Begins (O.written out.old) (O.written out.new) (size_line call size)) }
     ensures told { is_some (O.written out.new) ≡ is_some (O.written out.old) }
@@ -59,7 +64,12 @@ pub fn write_size<O: Sink>(alloc: Global, call: u64, size: u64, out: &mut O) -> 
 }
 
 /// Writes the answer to a read: its bytes.
-pub fn write_data<O: Sink>(alloc: Global, call: u64, bytes: &[u8], out: &mut O) -> Result<(), WriteError>
+pub fn write_data<O: Sink>(
+    alloc: Global,
+    call: u64,
+    bytes: &[u8],
+    out: &mut O,
+) -> Result<(), WriteError>
     ensures all { OnOk result (Appends (O.written out.old) (O.written out.new) (data_line call bytes.now)) }
     ensures part { OnErr result (Begins (O.written out.old) (O.written out.new) (data_line call bytes.now)) }
     ensures told { is_some (O.written out.new) ≡ is_some (O.written out.old) }

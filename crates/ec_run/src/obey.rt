@@ -26,7 +26,16 @@ pub enum Stop {
 }
 
 /// Obeys line number `number`.
-pub fn obey_line<T: RowTimes, O: Sink>(rows: &T, alloc: Global, g: &Geometry, number: u64, line: &[u8], player: &mut Player, bricks: &mut Vec<PlainBrick>, out: &mut O) -> Result<(), Stop>
+pub fn obey_line<T: RowTimes, O: Sink>(
+    rows: &T,
+    alloc: Global,
+    g: &Geometry,
+    number: u64,
+    line: &[u8],
+    player: &mut Player,
+    bricks: &mut Vec<PlainBrick>,
+    out: &mut O,
+) -> Result<(), Stop>
     requires count { vec_len bricks.old ≡ g.now.n }
     requires ready { IsReady g.now.n (g.now.n - g.now.r) player.old number }
     requires number { number ≤ MOST_LINES }
@@ -55,7 +64,15 @@ pub fn obey_line<T: RowTimes, O: Sink>(rows: &T, alloc: Global, g: &Geometry, nu
 }
 
 /// Obeys what a line orders.
-fn obey_event<T: RowTimes, O: Sink>(rows: &T, alloc: Global, g: &Geometry, event: Event, player: &mut Player, bricks: &mut Vec<PlainBrick>, out: &mut O) -> Result<(), Stop>
+fn obey_event<T: RowTimes, O: Sink>(
+    rows: &T,
+    alloc: Global,
+    g: &Geometry,
+    event: Event,
+    player: &mut Player,
+    bricks: &mut Vec<PlainBrick>,
+    out: &mut O,
+) -> Result<(), Stop>
     requires count { vec_len bricks.old ≡ g.now.n }
     requires fits { EventFits g.now.n (g.now.n - g.now.r) (Some event) }
     requires ready { IsReady g.now.n (g.now.n - g.now.r) player.old (player.old.calls + 1) }

@@ -114,7 +114,11 @@ impl LineReader {
 
     /// Takes the next line into `line`, without its newline, and answers whether there was one. After an error no
     /// line can be taken any more.
-    pub fn next_line<S: Source>(&mut self, source: &mut S, line: &mut Vec<u8>) -> Result<bool, ReadError>
+    pub fn next_line<S: Source>(
+        &mut self,
+        source: &mut S,
+        line: &mut Vec<u8>,
+    ) -> Result<bool, ReadError>
         ensures line { IfOk result (λ more. MatchBool more
             (TakesLine (prepend_known self.old (S.left source.old)) (prepend_known self.new (S.left source.new)) line.new.items)
             (HasNoLine (prepend_known self.old (S.left source.old)))) }

@@ -77,7 +77,12 @@ fn is_range(g: &Geometry, off: u64, len: u64) -> bool
     ensures { result ≡ is_range (g.now.n - g.now.r) off len }
 {
     let stripe = 512 * u64::from(g.k());
-    off % stripe == 0 && len % stripe == 0 && len > 0 && len <= MOST_BYTES as u64 && off <= MOST_SIZE && len <= MOST_SIZE - off
+    off % stripe == 0
+        && len % stripe == 0
+        && len > 0
+        && len <= MOST_BYTES as u64
+        && off <= MOST_SIZE
+        && len <= MOST_SIZE - off
 }
 
 /// A brick below `n` that a word names, where it is none below `least`.
@@ -153,7 +158,12 @@ fn call_of(alloc: Global, g: &Geometry, words: &[&[u8]]) -> Result<Call, LineErr
         return write_of(alloc, g, number(words[4]), words[5]);
     }
     if words.len() == 8 && is_call(words, "read") && is(words[6], "via") {
-        return where_any(read_of(g, number(words[4]), number(words[5]), bricks_of(g, words[7])));
+        return where_any(read_of(
+            g,
+            number(words[4]),
+            number(words[5]),
+            bricks_of(g, words[7]),
+        ));
     }
     Err(LineError::Unbuilt)
 }
@@ -184,7 +194,11 @@ fn read_of(g: &Geometry, off: Option<u64>, len: Option<u64>, via: Option<BrickSe
     ensures fits { IfSome result (CallFits g.now.n (g.now.n - g.now.r)) }
 {
     match (off, len, via) {
-        (Some(off), Some(len), Some(via)) if is_range(g, off, len) => Some(Call::Read { off, len, via }),
+        (Some(off), Some(len), Some(via)) if is_range(g, off, len) => Some(Call::Read {
+            off,
+            len,
+            via,
+        }),
         _ => None,
     }
 }

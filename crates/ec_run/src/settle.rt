@@ -20,7 +20,17 @@ use ec_bank::RowTimes;
 use std::alloc::Global;
 
 /// Carries out a write and answers it; gives the size after it.
-fn settle_write<T: RowTimes, O: Sink>(rows: &T, alloc: Global, g: &Geometry, call: u64, size: u64, off: u64, bytes: &[u8], bricks: &mut Vec<PlainBrick>, out: &mut O) -> Result<u64, WriteError>
+fn settle_write<T: RowTimes, O: Sink>(
+    rows: &T,
+    alloc: Global,
+    g: &Geometry,
+    call: u64,
+    size: u64,
+    off: u64,
+    bytes: &[u8],
+    bricks: &mut Vec<PlainBrick>,
+    out: &mut O,
+) -> Result<u64, WriteError>
     requires count { vec_len bricks.old ≡ g.now.n }
     requires range { is_range (g.now.n - g.now.r) off (length bytes.now) ≡ true }
     requires size { size ≤ 2 ^ 24 }
@@ -52,7 +62,18 @@ fn settle_write<T: RowTimes, O: Sink>(rows: &T, alloc: Global, g: &Geometry, cal
 }
 
 /// Answers a read, by way of the bricks of `via` alone.
-fn settle_read<T: RowTimes, O: Sink>(rows: &T, alloc: Global, g: &Geometry, call: u64, size: u64, off: u64, len: u64, via: &BrickSet, bricks: &Vec<PlainBrick>, out: &mut O) -> Result<(), WriteError>
+fn settle_read<T: RowTimes, O: Sink>(
+    rows: &T,
+    alloc: Global,
+    g: &Geometry,
+    call: u64,
+    size: u64,
+    off: u64,
+    len: u64,
+    via: &BrickSet,
+    bricks: &Vec<PlainBrick>,
+    out: &mut O,
+) -> Result<(), WriteError>
     requires count { vec_len bricks.now ≡ g.now.n }
     requires range { is_range (g.now.n - g.now.r) off len ≡ true }
     requires via { IsVia g.now.n (g.now.n - g.now.r) via.now }
@@ -73,7 +94,16 @@ fn settle_read<T: RowTimes, O: Sink>(rows: &T, alloc: Global, g: &Geometry, call
 }
 
 /// Carries out a call and answers it; gives the size after it.
-fn settle_call<T: RowTimes, O: Sink>(rows: &T, alloc: Global, g: &Geometry, calls: u64, size: u64, call: &Call, bricks: &mut Vec<PlainBrick>, out: &mut O) -> Result<u64, WriteError>
+fn settle_call<T: RowTimes, O: Sink>(
+    rows: &T,
+    alloc: Global,
+    g: &Geometry,
+    calls: u64,
+    size: u64,
+    call: &Call,
+    bricks: &mut Vec<PlainBrick>,
+    out: &mut O,
+) -> Result<u64, WriteError>
     requires count { vec_len bricks.old ≡ g.now.n }
     requires fits { CallFits g.now.n (g.now.n - g.now.r) call.now }
     requires size { size ≤ 2 ^ 24 }
@@ -92,8 +122,20 @@ fn settle_call<T: RowTimes, O: Sink>(rows: &T, alloc: Global, g: &Geometry, call
     ensures cause { IsErrOf result WriteError.WriteFault → Rose (O.faults out.old) (O.faults out.new) }
 {
     match call {
-        Call::Write { off, bytes } => settle_write(rows, alloc, g, calls, size, *off, bytes.items(), bricks, out),
-        Call::Read { off, len, via } => match settle_read(rows, alloc, g, calls, size, *off, *len, via, bricks, out) {
+        Call::Write { off, bytes } => settle_write(
+            rows,
+            alloc,
+            g,
+            calls,
+            size,
+            *off,
+            bytes.items(),
+            bricks,
+            out,
+        ),
+        Call::Read { off, len, via } => match settle_read(
+            rows, alloc, g, calls, size, *off, *len, via, bricks, out,
+        ) {
             Ok(()) => Ok(size),
             Err(error) => Err(error),
         },
@@ -101,7 +143,14 @@ fn settle_call<T: RowTimes, O: Sink>(rows: &T, alloc: Global, g: &Geometry, call
 }
 
 /// Carries out and answers the call that waits, if there is one.
-pub fn settle<T: RowTimes, O: Sink>(rows: &T, alloc: Global, g: &Geometry, player: &mut Player, bricks: &mut Vec<PlainBrick>, out: &mut O) -> Result<(), WriteError>
+pub fn settle<T: RowTimes, O: Sink>(
+    rows: &T,
+    alloc: Global,
+    g: &Geometry,
+    player: &mut Player,
+    bricks: &mut Vec<PlainBrick>,
+    out: &mut O,
+) -> Result<(), WriteError>
     requires count { vec_len bricks.old ≡ g.now.n }
     requires fits { WaitingFits g.now.n (g.now.n - g.now.r) player.old.waiting }
     requires size { player.old.size ≤ 2 ^ 24 }
@@ -121,7 +170,16 @@ pub fn settle<T: RowTimes, O: Sink>(rows: &T, alloc: Global, g: &Geometry, playe
 {
     match player.waiting.take() {
         None => Ok(()),
-        Some(call) => match settle_call(rows, alloc, g, player.calls, player.size, &call, bricks, out) {
+        Some(call) => match settle_call(
+            rows,
+            alloc,
+            g,
+            player.calls,
+            player.size,
+            &call,
+            bricks,
+            out,
+        ) {
             Ok(size) => {
                 player.size = size;
                 Ok(())

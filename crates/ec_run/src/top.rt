@@ -25,7 +25,13 @@ use std::alloc::Global;
 ///
 /// `words` are the words after the program's name, exactly `play`. Of a script that tells its bytes the clause `script`
 /// says, by the status, what is written and what the bricks hold.
-pub fn run<S: Source, O: Sink>(alloc: Global, words: &[&str], script: &mut S, out: &mut O, bricks: &mut Vec<PlainBrick>) -> Status
+pub fn run<S: Source, O: Sink>(
+    alloc: Global,
+    words: &[&str],
+    script: &mut S,
+    out: &mut O,
+    bricks: &mut Vec<PlainBrick>,
+) -> Status
     requires three { vec_len bricks.old ≡ 3 }
     requires fresh { (b : ℕ) → fragment_at bricks.old.items b ≡ [] }
 
@@ -73,7 +79,14 @@ fn finish<O: Sink>(alloc: Global, player: &Player, out: &mut O) -> Result<(), Wr
 }
 
 /// Obeys a script over bricks that are empty.
-fn play<T: RowTimes, S: Source, O: Sink>(rows: &T, alloc: Global, g: &Geometry, script: &mut S, out: &mut O, bricks: &mut Vec<PlainBrick>) -> Status
+fn play<T: RowTimes, S: Source, O: Sink>(
+    rows: &T,
+    alloc: Global,
+    g: &Geometry,
+    script: &mut S,
+    out: &mut O,
+    bricks: &mut Vec<PlainBrick>,
+) -> Status
     requires count { vec_len bricks.old ≡ g.now.n }
     requires fresh { (b : ℕ) → fragment_at bricks.old.items b ≡ [] }
     requires plain { g.now.algorithm ≡ 0 }
@@ -98,7 +111,16 @@ fn play<T: RowTimes, S: Source, O: Sink>(rows: &T, alloc: Global, g: &Geometry, 
             Err(ReadError::ReadFault) => return Status::ReadFault,
             Err(ReadError::NoMemory) => return Status::NoMemory,
         }
-        match obey_line(rows, alloc, g, number, line.as_slice(), &mut player, bricks, out) {
+        match obey_line(
+            rows,
+            alloc,
+            g,
+            number,
+            line.as_slice(),
+            &mut player,
+            bricks,
+            out,
+        ) {
             Ok(()) => {}
             Err(Stop::Unbuilt) => return unbuilt(number),
             Err(Stop::WriteFault) => return Status::WriteFault,

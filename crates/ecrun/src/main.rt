@@ -34,7 +34,13 @@ fn run_program(rt: &(impl Env + Input + Print + AllocGlobal)) -> Status {
     };
     let mut script = Reading::new(rt.reader());
     let mut out = Writing::new(io::writer(rt));
-    run(rt.alloc(), words.as_slice(), &mut script, &mut out, &mut bricks)
+    run(
+        rt.alloc(),
+        words.as_slice(),
+        &mut script,
+        &mut out,
+        &mut bricks,
+    )
 }
 
 /// The words after the program's name.

@@ -1,4 +1,4 @@
-use Rattle.std.proofs.Common.{◌≡◌, ◌+◌, ◌<◌, ℕ, zero, suc, List, [], ◌∷◌, ◌++◌, vec_len, refl, sym, ap, ◌∙◌, arith}
+use Rattle.std.proofs.Common.{◌≡◌, ◌+◌, ℕ, zero, suc, List, [], ◌∷◌, ◌++◌, refl, ap, ◌∙◌}
 use Rattle.ec_run.specs.File.{fragment_at}
 use Rattle.ecrun.proofs.three_bricks.Goals as goal
 
@@ -12,5 +12,5 @@ fresh_more (fragment ∷ bricks) h (suc b) = fresh_more bricks (λ c. h (suc c))
 pub loop-preserved : goal.loop-preserved
 loop-preserved c = record {
   count = c.in_ok-push.ensures.len ∙ ap (λ n. n + 1) c.loop.invariant.count;
-  fresh = λ b. rw (c.in_ok-push.ensures.items, c.new.ensures) (fresh_more c.loop.bricks.items c.loop.invariant.fresh b)
+  fresh = λ b. rw (c.in_ok-push.ensures.items, c.new.ensures) (fresh_more c.loop.bricks.items c.loop.invariant.fresh b);
 }

@@ -1,4 +1,4 @@
-use Rattle.std.proofs.Common.{◌≡◌, ◌+◌, ◌++◌, [], ◌∷◌, get_or, length, sym, ap, ◌∙◌, append_assoc, append-nil, length-append, arith, ℕ}
+use Rattle.std.proofs.Common.{◌≡◌, ◌+◌, ◌++◌, [], ◌∷◌, get_or, length, sym, ap, ◌∙◌, append_assoc, append-nil, length-append, arith}
 use Rattle.std.specs.Prelude.{replicate}
 use Rattle.std.proofs.lemmas.List.{replicate_more, length-replicate}
 use Rattle.ec_run.proofs.DataLemmas.{repeated_one, adds_of}
@@ -18,12 +18,12 @@ pub returns-clause-ok : goal.returns-clause-ok
 returns-clause-ok c =
     let all : c.loop.counter ≡ c.in-len1-Some.count = omega arith in
     adds_of c.args.bytes.now c.loop.bytes _ _
-      (repeated_one c.args.said.now c.args.count c.in-len1-Some.count c.in-len1-Some.len_at_least c.in-len1-Some.len_below c.in-len1-Some.is-1)
-      (c.loop.invariant ∙ ap (λ n. c.args.bytes.now ++ replicate n (get_or c.args.said.now 0 0)) all)
+    (repeated_one c.args.said.now c.args.count c.in-len1-Some.count c.in-len1-Some.len_at_least c.in-len1-Some.len_below c.in-len1-Some.is-1)
+    (c.loop.invariant ∙ ap (λ n. c.args.bytes.now ++ replicate n (get_or c.args.said.now 0 0)) all)
 
 pub returns-clause-most : goal.returns-clause-most
 returns-clause-most c =
     let size : length c.loop.bytes ≡ length c.args.bytes.now + c.loop.counter =
-          ap length c.loop.invariant ∙ length-append c.args.bytes.now (replicate c.loop.counter (get_or c.args.said.now 0 0))
-          ∙ ap (λ n. length c.args.bytes.now + n) (length-replicate c.loop.counter (get_or c.args.said.now 0 0)) in
+    ap length c.loop.invariant ∙ length-append c.args.bytes.now (replicate c.loop.counter (get_or c.args.said.now 0 0))
+    ∙ ap (λ n. length c.args.bytes.now + n) (length-replicate c.loop.counter (get_or c.args.said.now 0 0)) in
     omega (arith, size, c.if-count-len.false, c.len.ensures, c.loop.auto.counter-end, c.requires)

@@ -10,7 +10,7 @@ use Rattle.ec_run.proofs.data.data.Given as goal
 abbrev pub invariant-loop-rest : goal.invariant-loop-rest
 invariant-loop-rest l = record {
   parts : data_bytes l.word ≡ option_map (λ more. l.bytes ++ more) (parts_bytes (pieces (λ b. nat_eq b 43) (option_map (λ rest. rest.now) l.rest)));
-  most : length l.bytes ≤ MOST_BYTES
+  most : length l.bytes ≤ MOST_BYTES;
 }
 
 abbrev pub decreases-loop-rest : goal.decreases-loop-rest

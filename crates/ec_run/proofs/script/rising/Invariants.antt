@@ -13,7 +13,7 @@ invariant-loop-rest l = record {
   parts : rising_bits l.g.n (slice_split (λ b. nat_eq b 44) l.word) 0 0 ≡ rising_bits l.g.n (pieces (λ b. nat_eq b 44) (option_map (λ rest. rest.now) l.rest)) l.least l.set;
   below : l.set < 2 ^ l.least;
   within : l.least ≤ l.g.n;
-  members : (b : ℕ) → is_in l.set b ≡ true → b < l.g.n
+  members : (b : ℕ) → is_in l.set b ≡ true → b < l.g.n;
 }
 
 abbrev pub decreases-loop-rest : goal.decreases-loop-rest

@@ -1,7 +1,5 @@
-use Rattle.std.proofs.Common.{◌≡◌, Some, inl, inr, refl, sym, ap, ◌∙◌}
-use Rattle.std.proofs.lemmas.Result.{on_ok_weaker, on_err_weaker}
+use Rattle.std.proofs.Common.{inr}
 use Rattle.ec_run.proofs.SettleLemmas.{coded_at}
-use Rattle.ec_run.specs.Player.{IsSettled, IsHalfSettled}
 use Rattle.ec_run.proofs.settle.settle_call.Goals as goal
 
 pub returns-in-Write-clause-ok : goal.returns-in-Write-clause-ok

@@ -1,5 +1,5 @@
-use Rattle.std.proofs.Common.{◌≡◌, ◌+◌, ◌-◌, ◌*◌, ◌%◌, ◌∙◌, min, length, arith, ap}
-use Rattle.ec_attr.specs.Bricks.{bricks, is_in, count_below}
+use Rattle.std.proofs.Common.{◌≡◌, ◌-◌, ◌*◌, ◌∙◌, length, arith}
+use Rattle.ec_attr.specs.Bricks.{bricks, is_in}
 use Rattle.ec_attr.proofs.Sets as sets
 use Rattle.ec_run.proofs.RangeLemmas.{range_parts, whole_below}
 use Rattle.ec_run.proofs.settle.settle_read.Goals as goal
@@ -13,4 +13,4 @@ pub read_stripes-requires-clause-whole : goal.read_stripes-requires-clause-whole
 read_stripes-requires-clause-whole g c =
     let range = range_parts (c.args.g.now.n - c.args.g.now.r) c.args.off c.args.len c.requires.range in
     rw (c.min-below.ensures, c.saturating_sub.ensures)
-      (whole_below (512 * (c.args.g.now.n - c.args.g.now.r)) c.args.len c.args.size c.args.off range.whole c.requires.whole range.place)
+    (whole_below (512 * (c.args.g.now.n - c.args.g.now.r)) c.args.len c.args.size c.args.off range.whole c.requires.whole range.place)

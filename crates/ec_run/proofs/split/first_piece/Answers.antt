@@ -1,5 +1,4 @@
 use Rattle.std.specs.Prelude.{nat_eq}
-use Rattle.std.proofs.Common.{subst, sym, ℕ, length, ◌≤◌}
 use Rattle.ec_run.proofs.SplitLemmas.{position_le, pieces_around}
 use Rattle.ec_run.proofs.split.first_piece.Goals as goal
 

@@ -1,4 +1,4 @@
-use Rattle.std.proofs.Common.{◌≡◌, ◌≤◌, ◌-◌, is_some, vec_len}
+use Rattle.std.proofs.Common.{◌≡◌, ◌≤◌, ◌-◌, vec_len}
 use Rattle.std.specs.Io.KnownBytes.{prepend_known}
 use Rattle.ec_run.specs.Going.{Goes}
 use Rattle.ec_run.specs.Play.{State}
@@ -14,5 +14,5 @@ invariant-lines g l = record {
   ready : IsReady l.g.n (l.g.n - l.g.r) l.player l.number;
   count : vec_len l.bricks ≡ l.g.n;
   read_later : g.S.Source.faults l.initial.script ≤ g.S.Source.faults l.script;
-  write_later : g.O.Sink.faults l.initial.out ≤ g.O.Sink.faults l.out
+  write_later : g.O.Sink.faults l.initial.out ≤ g.O.Sink.faults l.out;
 }

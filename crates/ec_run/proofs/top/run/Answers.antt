@@ -1,6 +1,5 @@
 use Rattle.std.proofs.Common.{List, ℕ, Option, Some, None, lit≤}
 use Rattle.std.specs.Prelude.{IfSome}
-use Rattle.std.specs.Io.KnownBytes.{Keeps}
 use Rattle.std.proofs.KnownBytes.{Keeps-refl}
 use Rattle.ec_run.specs.declared.status.Status.TheVariants.{BadWords}
 use Rattle.ec_run.specs.File.{empty_file, IsCoded}

@@ -9,7 +9,7 @@ invariant-loop-rest g l = record {
   parts : l.bytes ≡ front ++ l.rest;
   text : Appends (g.O.Sink.written l.initial.out) (g.O.Sink.written l.out) front;
   told : is_some (g.O.Sink.written l.out) ≡ is_some (g.O.Sink.written l.initial.out);
-  later : g.O.Sink.faults l.initial.out ≤ g.O.Sink.faults l.out
+  later : g.O.Sink.faults l.initial.out ≤ g.O.Sink.faults l.out;
 }
 
 abbrev pub decreases-loop-rest : goal.decreases-loop-rest

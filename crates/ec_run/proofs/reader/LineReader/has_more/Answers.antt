@@ -1,4 +1,4 @@
-use Rattle.std.proofs.Common.{◌≡◌, List, ℕ, Option, Some, None, true, false, Result, Ok, Err, length, ◌<◌, [], sym, ◌∙◌}
+use Rattle.std.proofs.Common.{List, ℕ, Option, Some, None, true, false, Result, Ok, Err, length, ◌<◌, []}
 use Rattle.std.specs.Prelude.{IfOk, MatchBool, Bool, OnOk}
 use Rattle.std.specs.Io.KnownBytes.{Consumes, IsAtEnd, prepend_known}
 use Rattle.ec_run.specs.declared.outside.Failed.{Failed}

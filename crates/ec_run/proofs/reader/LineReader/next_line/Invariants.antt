@@ -1,4 +1,4 @@
-use Rattle.std.proofs.Common.{◌≡◌, ◌≤◌, [], length, is_some}
+use Rattle.std.proofs.Common.{◌≡◌, ◌≤◌, length, is_some}
 use Rattle.std.specs.Io.KnownBytes.{Consumes, prepend_known}
 use Rattle.ec_run.specs.Lines.{HasNoNewline}
 use Rattle.ec_run.specs.declared.reader.TheConstants.{LONGEST}
@@ -12,5 +12,5 @@ invariant-bytes g l = record {
   grown : l.counter ≤ length l.line.items;
   short : length l.line.items ≤ LONGEST;
   told : is_some (g.S.Source.left l.source) ≡ is_some (g.S.Source.left l.initial.source);
-  later : g.S.Source.faults l.initial.source ≤ g.S.Source.faults l.source
+  later : g.S.Source.faults l.initial.source ≤ g.S.Source.faults l.source;
 }

@@ -46,6 +46,7 @@ impl Model for LineReader {
 }
 
 impl LineReader {
+    /// A reader that has asked its source for nothing yet.
     pub fn new() -> LineReader
         ensures { result ≡ [] }
     {

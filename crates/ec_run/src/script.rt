@@ -3,7 +3,8 @@ ghost use Rattle.std.specs.Prelude.{◌≡◌, ◌+◌, ◌-◌, ◌≤◌, ◌<
 ghost use Rattle.std.specs.List.{slice_split};
 ghost use Rattle.ec_attr.specs.Bricks.{is_in};
 ghost use Rattle.ec_run.specs.Data.{data_bytes};
-ghost use Rattle.ec_run.specs.Script.{is_range, is_call, CallFits, EventFits, IsVia, write_of, read_of, brick_of, rising_bits, bricks_of, call_of, event_of_words, event_of};
+ghost use Rattle.ec_run.specs.Script.{is_range, is_call, CallFits, EventFits, IsVia, write_of, read_of, brick_of, rising_bits, bricks_of};
+ghost use Rattle.ec_run.specs.Script.{call_of, event_of_words, event_of};
 ghost use Rattle.ec_run.specs.declared.script.LineError.TheVariants.{NoMemory};
 
 use crate::data::{DataError, MOST_BYTES, data};

@@ -1,0 +1,7 @@
+// The volume file: the text that names a volume's bricks and its options, read and printed.
+//
+// Promised: what is read is in the grammar of volume files and has its meaning, what is refused isn't, and the fault
+// is the first one, with its line.
+#![tactic(auto)]
+
+mod lines;

@@ -4,4 +4,11 @@
 // is the first one, with its line.
 #![tactic(auto)]
 
+mod fault;
 mod lines;
+mod number;
+mod options;
+mod volume;
+
+pub use fault::VolumeFault;
+pub use volume::{BlobList, Kernel, Volume};

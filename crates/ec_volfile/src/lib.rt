@@ -8,6 +8,8 @@ mod fault;
 mod lines;
 mod number;
 mod options;
+mod section;
+mod state;
 mod volume;
 
 pub use fault::VolumeFault;

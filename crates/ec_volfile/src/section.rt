@@ -1,5 +1,5 @@
 // The lines of one section.
-ghost use Rattle.std.specs.Prelude.{◌≡◌, ◌^◌, ◌≤◌, List, length, IfOk, Option as Optional};
+ghost use Rattle.std.specs.Prelude.{◌≡◌, ◌^◌, ◌≤◌, length, IfOk, Ok};
 ghost use Rattle.std.specs.Option.{option_copied};
 ghost use Rattle.ec_volfile.specs.Sections.{Gives, keyword_of, one_word, repeats, subvolumes_of, typed};
 ghost use Rattle.ec_volfile.specs.Lines.{words};
@@ -10,6 +10,10 @@ use crate::options::{Options, key_of};
 use crate::volume::BlobList;
 use ec_attr::Blob;
 use std::alloc::{AllocError, Global};
+use std::collections::BTreeSet;
+
+/// No volume has more bricks.
+const MOST_BRICKS: u32 = 31;
 
 /// What the first word of a line says.
 #[derive(Clone, Copy, Debug, PartialEq, Eq)]
@@ -74,5 +78,149 @@ pub(crate) fn one_word(args: &[u8]) -> Option<&[u8]>
         Some(word)
     } else {
         None
+    }
+}
+
+/// The first 31 of the names, and how many there are.
+fn subvolumes_of(alloc: Global, args: &[u8]) -> Result<Subvolumes, VolumeFault>
+    requires { length args.now ≤ 2 ^ 20 }
+    ensures { Gives (λ s. s) result (Ok (subvolumes_of (words args.now))) }
+{
+    let mut count = 0u32;
+    let mut names = BlobList::new(alloc);
+    let mut rest = skip_blanks(args);
+    while !rest.is_empty() {
+        let (word, after) = split_word(rest);
+        if count < MOST_BRICKS {
+            names.push(Blob::from_slice(alloc, word)?)?;
+        }
+        count += 1;
+        rest = skip_blanks(after);
+    }
+    Ok(Subvolumes { count, names })
+}
+
+/// Whether a name comes twice.
+fn repeats(alloc: Global, args: &[u8]) -> Result<bool, AllocError>
+    ensures { IfOk result (λ b. b ≡ repeats (words args.now)) }
+{
+    let mut seen = BTreeSet::new(alloc);
+    let mut rest = skip_blanks(args);
+    while !rest.is_empty() {
+        let (word, after) = split_word(rest);
+        if !seen.insert(word)? {
+            return Ok(true);
+        }
+        rest = skip_blanks(after);
+    }
+    Ok(false)
+}
+
+impl Section {
+    ghost use Rattle.std.specs.Prelude.{◌≡◌, ◌^◌, ◌≤◌, length, Ok};
+    ghost use Rattle.ec_volfile.specs.Sections.{Gives, head, item, named, new_section, option, subvolumes, typed};
+
+    /// The section with this name and type.
+    fn new(name: Blob, disperse: bool) -> Section
+        ensures { result ≡ new_section name disperse }
+    {
+        Section {
+            name,
+            disperse,
+            subvolumes: None,
+            options: Options::new(),
+        }
+    }
+
+    /// The section that the line `type T` begins. The flag says whether a section has the type `cluster/disperse`.
+    pub fn typed(
+        name: Blob,
+        seen: bool,
+        keyword: Keyword,
+        args: &[u8],
+    ) -> Result<Section, VolumeFault>
+        ensures { result ≡ head seen name keyword args.now }
+    {
+        if keyword != Keyword::Type {
+            return Err(VolumeFault::BadLine);
+        }
+        match one_word(args) {
+            None => Err(VolumeFault::BadLine),
+            Some(kind) => {
+                if kind != b"cluster/disperse".as_slice() {
+                    return Ok(Section::new(name, false));
+                }
+                if seen {
+                    return Err(VolumeFault::TwoDisperse);
+                }
+                Ok(Section::new(name, true))
+            }
+        }
+    }
+
+    /// The section with an option more.
+    fn option(self, key: &[u8], value: &[u8]) -> Result<Section, VolumeFault>
+        ensures { result ≡ option self key.now value.now }
+    {
+        if value.is_empty() {
+            return Err(VolumeFault::BadLine);
+        }
+        match key_of(key) {
+            Some(key) if self.disperse => {
+                let options = self.options.set(key, value)?;
+                let mut section = self;
+                section.options = options;
+                Ok(section)
+            }
+            _ => Ok(self),
+        }
+    }
+
+    /// The section with its subvolumes.
+    fn subvolumes(self, alloc: Global, args: &[u8]) -> Result<Section, VolumeFault>
+        requires { length args.now ≤ 2 ^ 20 }
+        ensures { Gives (λ s. s) result (subvolumes self args.now self.subvolumes) }
+    {
+        if self.subvolumes.is_some() {
+            return Err(VolumeFault::Twice);
+        }
+        let mut section = self;
+        if !section.disperse {
+            section.subvolumes = Some(Subvolumes {
+                count: 0,
+                names: BlobList::new(alloc),
+            });
+            return Ok(section);
+        }
+        if repeats(alloc, args)? {
+            return Err(VolumeFault::Twice);
+        }
+        section.subvolumes = Some(subvolumes_of(alloc, args)?);
+        Ok(section)
+    }
+
+    /// The section with a line more, which isn't its end.
+    pub fn item(
+        self,
+        alloc: Global,
+        keyword: Keyword,
+        args: &[u8],
+    ) -> Result<Section, VolumeFault>
+        requires { length args.now ≤ 2 ^ 20 }
+        ensures { Gives (λ s. s) result (item self keyword args.now) }
+    {
+        match keyword {
+            Keyword::Option => {
+                let (key, after) = split_word(args);
+                self.option(key, trim_end(skip_blanks(after)))
+            }
+            Keyword::Subvolumes => {
+                if args.is_empty() {
+                    return Err(VolumeFault::BadLine);
+                }
+                self.subvolumes(alloc, args)
+            }
+            _ => Err(VolumeFault::BadLine),
+        }
     }
 }

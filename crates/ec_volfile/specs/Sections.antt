@@ -1,6 +1,7 @@
 -- The sections of a volume file, line by line: what each line leads to, or the fault that it is.
 use Rattle.std.specs.Prelude.{◌≡◌, ℕ, ◌+◌, ◌*◌, Bool, true, false, ◌||◌, ◌&&◌, List, [], ◌∷◌, length, take, Option, Some, None, unwrap_or, ok_or, Result, Ok, Err, bytes_eq, codes, nat_eq, nat_lt, nat_le, if◌then◌else◌}
 use Rattle.std.specs.List.{list_any}
+use Rattle.std.specs.Borrow.{Bor}
 use Rattle.ec_attr.specs.declared.policy.Policy.{Policy}
 use Rattle.ec_attr.specs.declared.policy.Policy.TheVariants.{RoundRobin}
 use Rattle.ec_volfile.specs.declared.volume.Kernel.{Kernel}
@@ -121,6 +122,10 @@ option s key value = if nat_eq (length value) 0 then Err BadLine else named s (k
 abbrev pub repeats : List (List ℕ) → Bool
 repeats [] = false
 repeats (name ∷ names) = list_any (bytes_eq name) names || repeats names
+
+-- a word is one of these
+abbrev pub is_among : List (Bor (List ℕ)) → List ℕ → Bool
+is_among seen word = list_any (λ (k : Bor (List ℕ)). bytes_eq word k.now) seen
 
 -- `subvolumes A B ..`: how many there are, and the first 31
 abbrev pub subvolumes_of : List (List ℕ) → Subvolumes

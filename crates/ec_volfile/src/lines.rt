@@ -1,6 +1,6 @@
 // The lines of a text, and the words of a line.
 ghost use Rattle.std.specs.Prelude.{◌≡◌, ◌<◌, ◌≤◌, ◌∷◌, length, nat_eq, position};
-ghost use Rattle.ec_volfile.specs.Lines.{is_blank, skip_blanks, trim_end, word_of, after_word, lines};
+ghost use Rattle.ec_volfile.specs.Lines.{is_blank, skip_blanks, trim_end, word_of, after_word, lines, words};
 
 /// A space or a tab.
 pub(crate) fn is_blank(b: u8) -> bool
@@ -72,4 +72,16 @@ pub(crate) fn split_word(bytes: &[u8]) -> (&[u8], &[u8])
         Some(i) => bytes.split_at(i),
         None => (bytes, &bytes[bytes.len()..]),
     }
+}
+
+/// The first word, and what follows it without the blanks at its front. The bytes themselves begin with no blank.
+pub(crate) fn next_word(bytes: &[u8]) -> (&[u8], &[u8])
+    requires begins { skip_blanks bytes.now ≡ bytes.now }
+    requires some { 0 < length bytes.now }
+    ensures words { words bytes.now ≡ result.0.now ∷ words result.1.now }
+    ensures begins { skip_blanks result.1.now ≡ result.1.now }
+    ensures shorter { length result.1.now < length bytes.now }
+{
+    let (word, after) = split_word(bytes);
+    (word, skip_blanks(after))
 }

@@ -1,11 +1,11 @@
 // The lines of one section.
-ghost use Rattle.std.specs.Prelude.{◌≡◌, ◌^◌, ◌≤◌, length, IfOk, Ok};
+ghost use Rattle.std.specs.Prelude.{◌≡◌, ◌^◌, ◌≤◌, ◌||◌, ℕ, List, not, length, bytes_eq, IfOk, OnOk, Ok};
 ghost use Rattle.std.specs.Option.{option_copied};
-ghost use Rattle.ec_volfile.specs.Sections.{Gives, keyword_of, one_word, repeats, subvolumes_of, typed};
+ghost use Rattle.ec_volfile.specs.Sections.{Gives, is_among, keyword_of, one_word, repeats, subvolumes_of, typed};
 ghost use Rattle.ec_volfile.specs.Lines.{words};
 
 use crate::fault::VolumeFault;
-use crate::lines::{skip_blanks, split_word, trim_end};
+use crate::lines::{next_word, skip_blanks, split_word, trim_end};
 use crate::options::{Options, key_of};
 use crate::volume::BlobList;
 use ec_attr::Blob;
@@ -90,14 +90,22 @@ fn subvolumes_of(alloc: Global, args: &[u8]) -> Result<Subvolumes, VolumeFault>
     let mut names = BlobList::new(alloc);
     let mut rest = skip_blanks(args);
     while !rest.is_empty() {
-        let (word, after) = split_word(rest);
+        let (word, after) = next_word(rest);
         if count < MOST_BRICKS {
             names.push(Blob::from_slice(alloc, word)?)?;
         }
         count += 1;
-        rest = skip_blanks(after);
+        rest = after;
     }
     Ok(Subvolumes { count, names })
+}
+
+/// Adds a word to the words that were seen, and says whether it is new.
+fn is_new<'a>(seen: &mut BTreeSet<&'a [u8]>, word: &'a [u8]) -> Result<bool, AllocError>
+    ensures new { IfOk result (λ b. b ≡ not (is_among seen.old.keys word.now)) }
+    ensures added { OnOk result ((q : List ℕ) → is_among seen.new.keys q ≡ (bytes_eq q word.now || is_among seen.old.keys q)) }
+{
+    Ok(seen.insert(word)?)
 }
 
 /// Whether a name comes twice.
@@ -107,11 +115,11 @@ fn repeats(alloc: Global, args: &[u8]) -> Result<bool, AllocError>
     let mut seen = BTreeSet::new(alloc);
     let mut rest = skip_blanks(args);
     while !rest.is_empty() {
-        let (word, after) = split_word(rest);
-        if !seen.insert(word)? {
+        let (word, after) = next_word(rest);
+        if !is_new(&mut seen, word)? {
             return Ok(true);
         }
-        rest = skip_blanks(after);
+        rest = after;
     }
     Ok(false)
 }

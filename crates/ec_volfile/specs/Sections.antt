@@ -1,5 +1,5 @@
 -- The sections of a volume file, line by line: what each line leads to, or the fault that it is.
-use Rattle.std.specs.Prelude.{◌≡◌, ℕ, ◌+◌, ◌*◌, Bool, true, false, ◌||◌, ◌&&◌, List, [], ◌∷◌, length, take, Option, Some, None, unwrap_or, ok_or, Result, Ok, Err, bytes_eq, codes, nat_eq, nat_lt, nat_le, if◌then◌else◌}
+use Rattle.std.specs.Prelude.{◌≡◌, ℕ, ◌+◌, ◌*◌, ◌^◌, Bool, true, false, ◌||◌, ◌&&◌, List, [], ◌∷◌, length, take, Option, Some, None, unwrap_or, ok_or, Result, Ok, Err, bytes_eq, codes, nat_eq, nat_lt, nat_le, if◌then◌else◌}
 use Rattle.std.specs.List.{list_any}
 use Rattle.std.specs.Borrow.{Bor}
 use Rattle.ec_attr.specs.declared.policy.Policy.{Policy}
@@ -10,7 +10,7 @@ use Rattle.ec_volfile.specs.declared.volume.Volume.{Volume}
 use Rattle.ec_volfile.specs.declared.options.Key.{Key}
 use Rattle.ec_volfile.specs.declared.options.Options.{Options}
 use Rattle.ec_volfile.specs.declared.fault.VolumeFault.{VolumeFault}
-use Rattle.ec_volfile.specs.declared.fault.VolumeFault.TheVariants.{BadLine, Twice, TwoDisperse, NoRedundancy, BadGeometry, NoEnd, NoDisperse, NoMemory}
+use Rattle.ec_volfile.specs.declared.fault.VolumeFault.TheVariants.{TooLong, BadLine, Twice, TwoDisperse, NoRedundancy, BadGeometry, NoEnd, NoDisperse, NoMemory}
 use Rattle.ec_volfile.specs.declared.section.Keyword.{Keyword}
 use Rattle.ec_volfile.specs.declared.section.Keyword.TheVariants as keyword
 use Rattle.ec_volfile.specs.declared.section.Subvolumes.{Subvolumes}
@@ -18,7 +18,7 @@ use Rattle.ec_volfile.specs.declared.section.Section.{Section}
 use Rattle.ec_volfile.specs.declared.state.Place.{Place}
 use Rattle.ec_volfile.specs.declared.state.Place.TheVariants as place
 use Rattle.ec_volfile.specs.declared.state.State.{State}
-use Rattle.ec_volfile.specs.Lines.{words, skip_blanks, trimmed, word_of, after_word}
+use Rattle.ec_volfile.specs.Lines.{lines, words, skip_blanks, trimmed, word_of, after_word}
 use Rattle.ec_volfile.specs.Options.{key_of, set, set_by}
 
 -- a volume as its file describes it: n bricks with redundancy r, coded by an algorithm
@@ -217,3 +217,16 @@ numbered n (Err f) = Err (n, f)
 abbrev pub run : Front → ℕ → List (List ℕ) → Result Outline (ℕ × VolumeFault)
 run f n [] = numbered n (finish f)
 run f n (line ∷ lines) = elim (step f line) [ Ok f ↦ run f (n + 1) lines | Err e ↦ Err (n + 1, e) ]
+
+-- what reading a file gives: its volume, or the first fault with its line
+abbrev pub outcome : List ℕ → Result Outline (ℕ × VolumeFault)
+outcome bytes = if nat_lt (2 ^ 20) (length bytes) then Err (0, TooLong) else run start 0 (lines bytes)
+
+-- What was read is this, unless memory ran out. Then the number of the line tells nothing.
+abbrev pub FailsAt : {Y : Type 0} → ℕ → VolumeFault → Result Y (ℕ × VolumeFault) → Type 0
+FailsAt n NoMemory read = Unit {0}
+FailsAt n f read = read ≡ Err (n, f)
+
+abbrev pub Reads : Result Volume (ℕ × VolumeFault) → Result Outline (ℕ × VolumeFault) → Type 0
+Reads (Ok v) read = read ≡ Ok (outline v)
+Reads (Err e) read = FailsAt e.0 e.1 read

@@ -8,9 +8,11 @@ mod fault;
 mod lines;
 mod number;
 mod options;
+mod reader;
 mod section;
 mod state;
 mod volume;
 
 pub use fault::VolumeFault;
+pub use reader::read;
 pub use volume::{BlobList, Kernel, Volume};

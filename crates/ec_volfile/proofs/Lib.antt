@@ -1,3 +1,4 @@
+pub mod GrammarLaws
 pub mod LineLemmas
 pub mod Names
 pub mod Shapes

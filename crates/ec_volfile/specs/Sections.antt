@@ -14,7 +14,7 @@ use Rattle.ec_volfile.specs.declared.fault.VolumeFault.TheVariants.{TooLong, Bad
 use Rattle.ec_volfile.specs.declared.section.Keyword.{Keyword}
 use Rattle.ec_volfile.specs.declared.section.Keyword.TheVariants as keyword
 use Rattle.ec_volfile.specs.declared.section.Subvolumes.{Subvolumes}
-use Rattle.ec_volfile.specs.declared.section.Section.{Section}
+use Rattle.ec_volfile.specs.declared.section.OpenSection.{OpenSection}
 use Rattle.ec_volfile.specs.declared.state.Place.{Place}
 use Rattle.ec_volfile.specs.declared.state.Place.TheVariants as place
 use Rattle.ec_volfile.specs.declared.state.State.{State}
@@ -91,31 +91,31 @@ outside keyword.Volume args = begun (one_word args)
 outside _ args = Err BadLine
 
 -- after `volume NAME`: `type T`
-abbrev pub new_section : List ℕ → Bool → Section
+abbrev pub new_section : List ℕ → Bool → OpenSection
 new_section name disperse = record {
   name = name; disperse = disperse; subvolumes = None;
   options = record { redundancy = None; policy = None; eager = None; cache = None; window = None; kernel = None; systematic = None };
 }
 
-abbrev pub typed : Bool → List ℕ → Option (List ℕ) → Result Section VolumeFault
+abbrev pub typed : Bool → List ℕ → Option (List ℕ) → Result OpenSection VolumeFault
 typed disperse name None = Err BadLine
 typed disperse name (Some type) =
     if bytes_eq type (codes "cluster/disperse") then (if disperse then Err TwoDisperse else Ok (new_section name true))
     else Ok (new_section name false)
 
-abbrev pub head : Bool → List ℕ → Keyword → List ℕ → Result Section VolumeFault
+abbrev pub head : Bool → List ℕ → Keyword → List ℕ → Result OpenSection VolumeFault
 head disperse name keyword.Type args = typed disperse name (one_word args)
 head disperse name _ args = Err BadLine
 
 -- `option KEY VALUE`, where only the disperse section's named options are read
-abbrev pub with_options : Section → Result Options VolumeFault → Result Section VolumeFault
+abbrev pub with_options : OpenSection → Result Options VolumeFault → Result OpenSection VolumeFault
 with_options s changed = set_by (λ o. record s { options = o }) changed
 
-abbrev pub named : Section → Option Key → List ℕ → Result Section VolumeFault
+abbrev pub named : OpenSection → Option Key → List ℕ → Result OpenSection VolumeFault
 named s None value = Ok s
 named s (Some key) value = if s.disperse then with_options s (set s.options key value) else Ok s
 
-abbrev pub option : Section → List ℕ → List ℕ → Result Section VolumeFault
+abbrev pub option : OpenSection → List ℕ → List ℕ → Result OpenSection VolumeFault
 option s key value = if nat_eq (length value) 0 then Err BadLine else named s (key_of key) value
 
 -- a name comes twice
@@ -131,18 +131,18 @@ is_among seen word = list_any (λ (k : Bor (List ℕ)). bytes_eq word k.now) see
 abbrev pub subvolumes_of : List (List ℕ) → Subvolumes
 subvolumes_of names = record { count = length names; names = take 31 names }
 
-abbrev pub disperse_names : Section → List (List ℕ) → Result Section VolumeFault
+abbrev pub disperse_names : OpenSection → List (List ℕ) → Result OpenSection VolumeFault
 disperse_names s names = if repeats names then Err Twice else Ok (record s { subvolumes = Some (subvolumes_of names) })
 
-abbrev pub other_names : Section → Result Section VolumeFault
+abbrev pub other_names : OpenSection → Result OpenSection VolumeFault
 other_names s = Ok (record s { subvolumes = Some (subvolumes_of []) })
 
-abbrev pub subvolumes : Section → List ℕ → Option Subvolumes → Result Section VolumeFault
+abbrev pub subvolumes : OpenSection → List ℕ → Option Subvolumes → Result OpenSection VolumeFault
 subvolumes s args (Some old) = Err Twice
 subvolumes s args None = if s.disperse then disperse_names s (words args) else other_names s
 
 -- within a section: an option, or the subvolumes
-abbrev pub item : Section → Keyword → List ℕ → Result Section VolumeFault
+abbrev pub item : OpenSection → Keyword → List ℕ → Result OpenSection VolumeFault
 item s keyword.Option args = option s (word_of args) (trimmed (after_word args))
 item s keyword.Subvolumes args = if nat_eq (length args) 0 then Err BadLine else subvolumes s args s.subvolumes
 item s _ args = Err BadLine
@@ -156,7 +156,7 @@ subvolumes_or None = subvolumes_of []
 subvolumes_or (Some s) = s
 
 -- what the disperse section says
-abbrev pub outline_of : Section → Subvolumes → ℕ → Outline
+abbrev pub outline_of : OpenSection → Subvolumes → ℕ → Outline
 outline_of s bricks r = record {
   name = s.name; bricks = bricks.names; n = bricks.count; r = r;
   algorithm = if unwrap_or s.options.systematic false then 1 else 0;
@@ -167,20 +167,20 @@ outline_of s bricks r = record {
   kernel = unwrap_or s.options.kernel Fused;
 }
 
-abbrev pub volume_with : Section → Subvolumes → Option ℕ → Result Outline VolumeFault
+abbrev pub volume_with : OpenSection → Subvolumes → Option ℕ → Result Outline VolumeFault
 volume_with s bricks None = Err NoRedundancy
 volume_with s bricks (Some r) = if is_geometry bricks.count r then Ok (outline_of s bricks r) else Err (BadGeometry bricks.count r)
 
-abbrev pub volume_of : Section → Result Outline VolumeFault
+abbrev pub volume_of : OpenSection → Result Outline VolumeFault
 volume_of s = volume_with s (subvolumes_or s.subvolumes) s.options.redundancy
 
 -- `end-volume`
-abbrev pub ended : Front → Section → Result Front VolumeFault
+abbrev pub ended : Front → OpenSection → Result Front VolumeFault
 ended f s =
     if s.disperse then set_by (λ v. record f { place = place.Outside; found = Some v }) (volume_of s)
     else Ok (record f { place = place.Outside })
 
-abbrev pub body : Front → Section → Keyword → List ℕ → Result Front VolumeFault
+abbrev pub body : Front → OpenSection → Keyword → List ℕ → Result Front VolumeFault
 body f s keyword.EndVolume args = if nat_eq (length args) 0 then ended f s else Err BadLine
 body f s k args = set_by (λ s. record f { place = place.Body s }) (item s k args)
 

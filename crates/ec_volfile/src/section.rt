@@ -37,7 +37,7 @@ pub(crate) struct Subvolumes {
 
 /// A section whose type is known.
 #[derive(Debug, Drop)]
-pub(crate) struct Section {
+pub(crate) struct OpenSection {
     pub name: Blob,
     pub disperse: bool,
     pub subvolumes: Option<Subvolumes>,
@@ -124,15 +124,15 @@ fn repeats(alloc: Global, args: &[u8]) -> Result<bool, AllocError>
     Ok(false)
 }
 
-impl Section {
+impl OpenSection {
     ghost use Rattle.std.specs.Prelude.{◌≡◌, ◌^◌, ◌≤◌, length, Ok};
     ghost use Rattle.ec_volfile.specs.Sections.{Gives, head, item, named, new_section, option, subvolumes, typed};
 
     /// The section with this name and type.
-    fn new(name: Blob, disperse: bool) -> Section
+    fn new(name: Blob, disperse: bool) -> OpenSection
         ensures { result ≡ new_section name disperse }
     {
-        Section {
+        OpenSection {
             name,
             disperse,
             subvolumes: None,
@@ -146,7 +146,7 @@ impl Section {
         seen: bool,
         keyword: Keyword,
         args: &[u8],
-    ) -> Result<Section, VolumeFault>
+    ) -> Result<OpenSection, VolumeFault>
         ensures { result ≡ head seen name keyword args.now }
     {
         if keyword != Keyword::Type {
@@ -156,18 +156,18 @@ impl Section {
             None => Err(VolumeFault::BadLine),
             Some(kind) => {
                 if kind != b"cluster/disperse".as_slice() {
-                    return Ok(Section::new(name, false));
+                    return Ok(OpenSection::new(name, false));
                 }
                 if seen {
                     return Err(VolumeFault::TwoDisperse);
                 }
-                Ok(Section::new(name, true))
+                Ok(OpenSection::new(name, true))
             }
         }
     }
 
     /// The section with an option more.
-    fn option(self, key: &[u8], value: &[u8]) -> Result<Section, VolumeFault>
+    fn option(self, key: &[u8], value: &[u8]) -> Result<OpenSection, VolumeFault>
         ensures { result ≡ option self key.now value.now }
     {
         if value.is_empty() {
@@ -185,7 +185,7 @@ impl Section {
     }
 
     /// The section with its subvolumes.
-    fn subvolumes(self, alloc: Global, args: &[u8]) -> Result<Section, VolumeFault>
+    fn subvolumes(self, alloc: Global, args: &[u8]) -> Result<OpenSection, VolumeFault>
         requires { length args.now ≤ 2 ^ 20 }
         ensures { Gives (λ s. s) result (subvolumes self args.now self.subvolumes) }
     {
@@ -213,7 +213,7 @@ impl Section {
         alloc: Global,
         keyword: Keyword,
         args: &[u8],
-    ) -> Result<Section, VolumeFault>
+    ) -> Result<OpenSection, VolumeFault>
         requires { length args.now ≤ 2 ^ 20 }
         ensures { Gives (λ s. s) result (item self keyword args.now) }
     {

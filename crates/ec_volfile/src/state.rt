@@ -4,7 +4,7 @@ ghost use Rattle.ec_volfile.specs.Sections.{Gives, outside, is_geometry, outline
 
 use crate::fault::VolumeFault;
 use crate::lines::{skip_blanks, split_word};
-use crate::section::{Keyword, Section, Subvolumes, keyword_of, one_word};
+use crate::section::{Keyword, OpenSection, Subvolumes, keyword_of, one_word};
 use crate::volume::{BlobList, Kernel, Volume};
 use ec_attr::{Blob, Geometry, Policy};
 use std::alloc::Global;
@@ -18,7 +18,7 @@ pub(crate) enum Place {
     Head(Blob),
 
     /// After `type T`.
-    Body(Section),
+    Body(OpenSection),
 }
 
 /// What stands after the first lines.
@@ -58,10 +58,10 @@ fn geometry_of(n: u32, r: u32, systematic: bool) -> Result<Geometry, VolumeFault
 }
 
 /// The volume of a disperse section that is over.
-fn volume_of(alloc: Global, section: Section) -> Result<Volume, VolumeFault>
+fn volume_of(alloc: Global, section: OpenSection) -> Result<Volume, VolumeFault>
     ensures { Gives outline result (volume_of section) }
 {
-    let Section {
+    let OpenSection {
         name,
         disperse: _,
         subvolumes,
@@ -139,7 +139,7 @@ impl State {
                 })
             }
             Place::Head(name) => {
-                let section = Section::typed(name, disperse, keyword, args)?;
+                let section = OpenSection::typed(name, disperse, keyword, args)?;
                 let disperse = disperse || section.disperse;
                 Ok(State {
                     place: Place::Body(section),

@@ -1,0 +1,2 @@
+-- test
+use Rattle.ec_volfile.specs.Grammar.{IsVolumeFile}

@@ -2,4 +2,5 @@ pub mod GrammarLaws
 pub mod LineLemmas
 pub mod Names
 pub mod Shapes
+pub mod Statements
 pub mod WordLemmas

@@ -1,4 +1,5 @@
 pub mod GrammarLaws
+pub mod LineLaws
 pub mod LineLemmas
 pub mod Names
 pub mod Shapes

@@ -48,15 +48,15 @@ lead f (place.Body s) Ends = ended f s
 lead f p st = Err BadLine
 
 -- the statement of a keyword and its arguments
-abbrev begins : Option (List ℕ) → Option Statement
+abbrev pub begins : Option (List ℕ) → Option Statement
 begins None = None
 begins (Some name) = Some (Begins name)
 
-abbrev has_type : Option (List ℕ) → Option Statement
+abbrev pub has_type : Option (List ℕ) → Option Statement
 has_type None = None
 has_type (Some type) = Some (HasType type)
 
-abbrev stated : Keyword → List ℕ → Option Statement
+abbrev pub stated : Keyword → List ℕ → Option Statement
 stated keyword.Volume args = begins (one_word args)
 stated keyword.Type args = has_type (one_word args)
 stated keyword.Option args = if nat_eq (length (trimmed (after_word args))) 0 then None else Some (Holds (Sets (word_of args) (trimmed (after_word args))))
@@ -64,7 +64,7 @@ stated keyword.Subvolumes args = if nat_eq (length args) 0 then None else Some (
 stated keyword.EndVolume args = if nat_eq (length args) 0 then Some Ends else None
 stated _ args = None
 
-abbrev lead_if : Front → Place → Option Statement → Result Front VolumeFault
+abbrev pub lead_if : Front → Place → Option Statement → Result Front VolumeFault
 lead_if f p None = Err BadLine
 lead_if f p (Some st) = lead f p st
 
@@ -86,7 +86,7 @@ no_end f p true h = sym h
 no_end f p false h = refl
 
 -- the step by a keyword is the step by its statement
-by_statement : (f : Front) (p : Place) (k : Keyword) (args : List ℕ) → at_place f p k args ≡ lead_if f p (stated k args)
+pub by_statement : (f : Front) (p : Place) (k : Keyword) (args : List ℕ) → at_place f p k args ≡ lead_if f p (stated k args)
 by_statement f place.Outside keyword.Nothing args = refl
 by_statement f place.Outside keyword.Volume args = elim (one_word args) as (λ (o : Option (List ℕ)). set_by (λ p. record f { place = p }) (begun o) ≡ lead_if f place.Outside (begins o)) [ None ↦ refl | Some name ↦ refl ]
 by_statement f place.Outside keyword.Type args = no_type f place.Outside (one_word args) (λ _. refl)
@@ -113,7 +113,7 @@ by_statement f (place.Body s) keyword.EndVolume args =
 by_statement f (place.Body s) keyword.Other args = refl
 
 -- what a keyword says of a word
-abbrev KeywordSays : Keyword → List ℕ → Type 0
+abbrev pub KeywordSays : Keyword → List ℕ → Type 0
 KeywordSays keyword.Nothing word = is_remark (word ∷ []) ≡ true
 KeywordSays keyword.Volume word = word ≡ codes "volume"
 KeywordSays keyword.Type word = word ≡ codes "type"
@@ -135,7 +135,7 @@ chosen_keyword word false false false false false false ha hb hc hd he hg = tt
 is_text : (word text : List ℕ) → bytes_eq word text ≡ true → word ≡ text
 is_text word text = (bytes_eq-Decides word text).0
 
-keyword_says : (word : List ℕ) → KeywordSays (keyword_of word) word
+pub keyword_says : (word : List ℕ) → KeywordSays (keyword_of word) word
 unfolding keyword_of
 keyword_says [] = refl
 keyword_says (b ∷ bs) =

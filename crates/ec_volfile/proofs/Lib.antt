@@ -1,4 +1,6 @@
 pub mod GrammarLaws
+pub mod Items
+pub mod Keys
 pub mod LineLaws
 pub mod LineLemmas
 pub mod Names

@@ -46,11 +46,11 @@ pub record Becomes (s : OpenSection) (vs : Key → List (List ℕ)) (nss : List 
   pub kernel : Joins kernel_some (vs CpuExtensions) s.options.kernel t.options.kernel
   pub systematic : Joins systematic_of (vs CodeRows) s.options.systematic t.options.systematic
 
-set_by-Ok : {A B : Type 0} (f : A → B) (r : Result A VolumeFault) (y : B) → set_by f r ≡ Ok y → (x : A) × (r ≡ Ok x) × (f x ≡ y)
+pub set_by-Ok : {A B : Type 0} (f : A → B) (r : Result A VolumeFault) (y : B) → set_by f r ≡ Ok y → (x : A) × (r ≡ Ok x) × (f x ≡ y)
 set_by-Ok f (Ok x) y e = (x, refl, cc)
 set_by-Ok f (Err d) y e = cc
 
-once-Ok : {A : Type 0} (old value : Option A) (x : A) → once old value ≡ Ok x → (old ≡ None) × (value ≡ Some x)
+pub once-Ok : {A : Type 0} (old value : Option A) (x : A) → once old value ≡ Ok x → (old ≡ None) × (value ≡ Some x)
 once-Ok (Some y) value x e = cc
 once-Ok None None x e = cc
 once-Ok None (Some z) x e = (refl, cc)

@@ -1,3 +1,4 @@
+pub mod Bodies
 pub mod GrammarLaws
 pub mod Items
 pub mod Keys

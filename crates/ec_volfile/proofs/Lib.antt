@@ -4,6 +4,7 @@ pub mod Items
 pub mod Keys
 pub mod LineLaws
 pub mod LineLemmas
+pub mod Meanings
 pub mod Names
 pub mod Shapes
 pub mod Statements

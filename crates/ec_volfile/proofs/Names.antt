@@ -37,7 +37,7 @@ pub record HasSeen (keys : List (Bor (List ℕ))) (front : List (List ℕ)) : Ty
   pub same : (q : List ℕ) → is_among keys q ≡ list_any (bytes_eq q) front
   pub once : repeats front ≡ false
 
-or_parts : (a b : Bool) → (a || b) ≡ false → (a ≡ false) × (b ≡ false)
+pub or_parts : (a b : Bool) → (a || b) ≡ false → (a ≡ false) × (b ≡ false)
 or_parts true b e = cc
 or_parts false b e = (refl, e)
 
@@ -54,7 +54,7 @@ or_comm : (a b : Bool) → (a || b) ≡ (b || a)
 or_comm true b = sym (or-true b)
 or_comm false b = sym (or-false b)
 
-or_both : (a b : Bool) → a ≡ false → b ≡ false → (a || b) ≡ false
+pub or_both : (a b : Bool) → a ≡ false → b ≡ false → (a || b) ≡ false
 or_both a b e f = ap (λ (t : Bool). t || b) e ∙ f
 
 or_right : (a b : Bool) → b ≡ true → (a || b) ≡ true
@@ -138,7 +138,7 @@ pub not_false : (b x : Bool) → b ≡ not x → b ≡ false → x ≡ true
 not_false b true e f = refl
 not_false b false e f = cc
 
-take_all : (n : ℕ) (xs : List (List ℕ)) → length xs ≤ n → take n xs ≡ xs
+pub take_all : (n : ℕ) (xs : List (List ℕ)) → length xs ≤ n → take n xs ≡ xs
 take_all n [] l = take_nil n where
   take_nil : (n : ℕ) → take {A = List ℕ} n [] ≡ []
   take_nil zero = refl

@@ -15,7 +15,7 @@ use Rattle.ec_volfile.specs.Sections.{named, with_options, repeats, subvolumes_o
 use Rattle.ec_volfile.specs.Grammar.{Item, Sets, Names, names_in}
 use Rattle.ec_volfile.proofs.WordLemmas.{at_true, at_false}
 use Rattle.ec_volfile.proofs.Keys.{with_value, key_values}
-use Rattle.ec_volfile.proofs.Statements.{with_names, take_item}
+use Rattle.ec_volfile.proofs.StatementLaws.{with_names, take_item}
 use Rattle.ec_volfile.proofs.Items.{Becomes, take_items, set_by-Ok, becomes-named, named-becomes, becomes-names, names-becomes}
 
 same_Ok : {A : Type 0} (s u : A) → ◌≡◌ {A = Result A VolumeFault} (Ok s) (Ok u) → s ≡ u
@@ -40,16 +40,16 @@ names_disperse names s u None e = by_type s.disperse (repeats names) e where
   by_type true false e = sym (ap (λ (x : OpenSection). x.disperse) (same_Ok (record s { subvolumes = Some (subvolumes_of names) }) u e))
   by_type false r e = sym (ap (λ (x : OpenSection). x.disperse) (same_Ok (record s { subvolumes = Some (subvolumes_of []) }) u e))
 
-item_disperse : (item : Item) (s u : OpenSection) → take_item s item ≡ Ok u → u.disperse ≡ s.disperse
+pub item_disperse : (item : Item) (s u : OpenSection) → take_item s item ≡ Ok u → u.disperse ≡ s.disperse
 item_disperse (Sets key value) s u e = named_disperse (key_of key) value s u e
 item_disperse (Names names) s u e = names_disperse names s u s.subvolumes e
 
 -- one item, then the others
-take_first : (s t : OpenSection) (items : List Item) (r : Result OpenSection VolumeFault) → ◌≡◌ {A = Result OpenSection VolumeFault} (elim r as (λ _. Result OpenSection VolumeFault) [ Ok u ↦ take_items u items | Err e ↦ Err e ]) (Ok t) → (u : OpenSection) × (r ≡ Ok u) × (take_items u items ≡ Ok t)
+pub take_first : (s t : OpenSection) (items : List Item) (r : Result OpenSection VolumeFault) → ◌≡◌ {A = Result OpenSection VolumeFault} (elim r as (λ _. Result OpenSection VolumeFault) [ Ok u ↦ take_items u items | Err e ↦ Err e ]) (Ok t) → (u : OpenSection) × (r ≡ Ok u) × (take_items u items ≡ Ok t)
 take_first s t items (Ok u) e = (u, refl, e)
 take_first s t items (Err d) e = cc
 
-take_next : (s u : OpenSection) (item : Item) (items : List Item) → take_item s item ≡ Ok u → take_items s (item ∷ items) ≡ take_items u items
+pub take_next : (s u : OpenSection) (item : Item) (items : List Item) → take_item s item ≡ Ok u → take_items s (item ∷ items) ≡ take_items u items
 take_next s u item items e = ap (λ (r : Result OpenSection VolumeFault). elim r as (λ _. Result OpenSection VolumeFault) [ Ok u ↦ take_items u items | Err e ↦ Err e ]) e
 
 nothing_becomes : (s : OpenSection) → Becomes s (key_values []) [] s

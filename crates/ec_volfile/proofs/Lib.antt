@@ -1,4 +1,5 @@
 pub mod Bodies
+pub mod FaultLaws
 pub mod GrammarLaws
 pub mod Items
 pub mod Keys
@@ -7,5 +8,5 @@ pub mod LineLemmas
 pub mod Meanings
 pub mod Names
 pub mod Shapes
-pub mod Statements
+pub mod StatementLaws
 pub mod WordLemmas

@@ -11,14 +11,8 @@ use Rattle.ec_volfile.specs.declared.fault.VolumeFault.{VolumeFault}
 use Rattle.ec_volfile.specs.declared.fault.VolumeFault.TheVariants.{BadLine}
 use Rattle.ec_volfile.specs.Grammar.{is_remark, is_passed, value_of, Item, Sets, Names, IsItem}
 use Rattle.ec_volfile.proofs.WordLemmas.{at_true, at_false, solid, skip_twice, words_skip, words_first, next_words}
-use Rattle.ec_volfile.proofs.Statements.{Statement, Begins, HasType, Holds, Ends, Says, lead, begins, has_type, stated, lead_if, by_statement, KeywordSays, keyword_says}
-
--- the first word of a line, and what follows it
-abbrev pub first_word : List ℕ → List ℕ
-first_word line = word_of (skip_blanks line)
-
-abbrev pub arguments : List ℕ → List ℕ
-arguments line = skip_blanks (after_word (skip_blanks line))
+use Rattle.ec_volfile.specs.Statements.{Statement, Begins, HasType, Holds, Ends, Says, begins, has_type, stated, first_word, arguments, statement_of}
+use Rattle.ec_volfile.proofs.StatementLaws.{lead, lead_if, by_statement, KeywordSays, keyword_says}
 
 pub record HasWord (line : List ℕ) : Type 0 where
   pub b : ℕ
@@ -147,6 +141,14 @@ says_nothing line w p e =
     let says = keyword_says (w.b ∷ w.bs) in
     let remark : nat_eq w.b 35 ≡ true = subst (λ (k : Keyword). KeywordSays k (w.b ∷ w.bs)) (ap keyword_of (sym w.first) ∙ e) says in
     false≢true (sym p ∙ (ap is_remark w.all ∙ remark))
+
+-- the step of a line that isn't passed over
+pub step-stated : (f : Front) (line : List ℕ) → is_passed line ≡ false → step f line ≡ lead_if f f.place (statement_of line)
+unfolding step
+step-stated f line p = by_word (first_or_none line) where
+  by_word : ((words line ≡ []) × (first_word line ≡ [])) ⊎ HasWord line → obey f (keyword_of (first_word line)) (arguments line) ≡ lead_if f f.place (statement_of line)
+  by_word (inl n) = absurd (false≢true (sym p ∙ ap is_remark n.0))
+  by_word (inr w) = obey-some f (keyword_of (first_word line)) (arguments line) (says_nothing line w p)
 
 abbrev pub LeadsBy : Front → List ℕ → Front → Type 0
 LeadsBy f line g = (st : Statement) × Says line st × (lead f f.place st ≡ Ok g)

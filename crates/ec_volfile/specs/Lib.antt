@@ -1,5 +1,7 @@
+pub mod Faults
 pub mod Grammar
 pub mod Lines
 pub mod Numbers
 pub mod Options
 pub mod Sections
+pub mod Statements

@@ -14,21 +14,9 @@ use Rattle.ec_volfile.specs.declared.state.Place.TheVariants as place
 use Rattle.ec_volfile.specs.Lines.{is_blank, words, skip_blanks, trimmed, word_of, after_word}
 use Rattle.ec_volfile.specs.Options.{key_of, set_by}
 use Rattle.ec_volfile.specs.Sections.{Front, keyword_of, one_word, begun, outside, typed, head, named, option, disperse_names, other_names, subvolumes, item, ended, body, at_place, obey, step}
-use Rattle.ec_volfile.specs.Grammar.{is_remark, is_passed, value_of, Item, Sets, Names, IsItem}
+use Rattle.ec_volfile.specs.Grammar.{is_remark, Item, Sets, Names}
+use Rattle.ec_volfile.specs.Statements.{Statement, Begins, HasType, Holds, Ends, begins, has_type, stated}
 use Rattle.ec_volfile.proofs.WordLemmas.{at_true, at_false, solid, skip_twice, words_skip, words_first, next_words}
-
--- what a line can say
-pub data Statement : Type 0 where
-  Begins : (name : List ℕ) → Statement
-  HasType : (type : List ℕ) → Statement
-  Holds : (item : Item) → Statement
-  Ends : Statement
-
-abbrev pub Says : List ℕ → Statement → Type 0
-Says line (Begins name) = words line ≡ codes "volume" ∷ name ∷ []
-Says line (HasType type) = words line ≡ codes "type" ∷ type ∷ []
-Says line (Holds item) = IsItem line item
-Says line Ends = words line ≡ codes "end-volume" ∷ []
 
 -- what a section becomes by an item
 abbrev pub with_names : OpenSection → List (List ℕ) → Option Subvolumes → Result OpenSection VolumeFault
@@ -46,23 +34,6 @@ lead f (place.Head name) (HasType type) = set_by (λ s. record f { place = place
 lead f (place.Body s) (Holds item) = set_by (λ s. record f { place = place.Body s }) (take_item s item)
 lead f (place.Body s) Ends = ended f s
 lead f p st = Err BadLine
-
--- the statement of a keyword and its arguments
-abbrev pub begins : Option (List ℕ) → Option Statement
-begins None = None
-begins (Some name) = Some (Begins name)
-
-abbrev pub has_type : Option (List ℕ) → Option Statement
-has_type None = None
-has_type (Some type) = Some (HasType type)
-
-abbrev pub stated : Keyword → List ℕ → Option Statement
-stated keyword.Volume args = begins (one_word args)
-stated keyword.Type args = has_type (one_word args)
-stated keyword.Option args = if nat_eq (length (trimmed (after_word args))) 0 then None else Some (Holds (Sets (word_of args) (trimmed (after_word args))))
-stated keyword.Subvolumes args = if nat_eq (length args) 0 then None else Some (Holds (Names (words args)))
-stated keyword.EndVolume args = if nat_eq (length args) 0 then Some Ends else None
-stated _ args = None
 
 abbrev pub lead_if : Front → Place → Option Statement → Result Front VolumeFault
 lead_if f p None = Err BadLine

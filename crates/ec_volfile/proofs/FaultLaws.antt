@@ -138,15 +138,76 @@ after n ls r = elim r as (λ _. Result Outline (ℕ × VolumeFault)) [ Ok g ↦ 
 abbrev reached_after : List (List ℕ) → Result Front VolumeFault → Result Front VolumeFault
 reached_after ls r = elim r as (λ _. Result Front VolumeFault) [ Ok g ↦ reached g ls | Err e ↦ Err e ]
 
-numbered-fault : (n m : ℕ) (e : VolumeFault) (r : Result Outline VolumeFault) → numbered n r ≡ Err (m, e) → (m ≡ n) × (r ≡ Err e)
+abbrev error_parts : Result Outline (ℕ × VolumeFault) → ℕ × VolumeFault
+error_parts (Ok x) = (0, TooLong)
+error_parts (Err e) = e
+
+err_pair : (n m : ℕ) (d e : VolumeFault) → ◌≡◌ {A = Result Outline (ℕ × VolumeFault)} (Err (n, d)) (Err (m, e)) → (n ≡ m) × (d ≡ e)
+err_pair n m d e h = (ap (λ r. (error_parts r).0) h, ap (λ r. (error_parts r).1) h)
+
+numbered-fault : (n m : ℕ) (e : VolumeFault) (r : Result Outline VolumeFault) → numbered n r ≡ Err (m, e) → (n ≡ m) × (r ≡ Err e)
 numbered-fault n m e (Ok x) h = cc
-numbered-fault n m e (Err d) h = ?
+numbered-fault n m e (Err d) h = let p = err_pair n m d e h in (p.0, ap Err p.1)
+
+same_Ok : (f g : Front) → ◌≡◌ {A = Result Front VolumeFault} (Ok f) (Ok g) → f ≡ g
+same_Ok f g e = cc
 
 run-fault : (ls : List (List ℕ)) (f : Front) (n m : ℕ) (e : VolumeFault) → run f n ls ≡ Err (m, e) → FaultFrom f n ls m e
 run-fault [] f n m e h =
     let p = numbered-fault n m e (finish f) h in
     inr (record { number = omega (arith, p.0); front = f; leads = refl; refused = p.1 })
 run-fault (line ∷ ls) f n m e h = by_step (step f line) refl h (λ g. run-fault ls g (n + 1) m e) where
+  longer : (g : Front) → step f line ≡ Ok g → FaultFrom g (n + 1) ls m e → FaultFrom f n (line ∷ ls) m e
+  longer g s (inl l) = inl (record { before = line ∷ l.before; line = l.line; rest = l.rest; all = ap (λ (x : List (List ℕ)). line ∷ x) l.all; number = omega (arith, l.number); front = l.front; leads = ap (reached_after l.before) s ∙ l.leads; refused = l.refused })
+  longer g s (inr l) = inr (record { number = omega (arith, l.number); front = l.front; leads = ap (reached_after ls) s ∙ l.leads; refused = l.refused })
   by_step : (r : Result Front VolumeFault) → step f line ≡ r → after n ls r ≡ Err (m, e) → ((g : Front) → run g (n + 1) ls ≡ Err (m, e) → FaultFrom g (n + 1) ls m e) → FaultFrom f n (line ∷ ls) m e
-  by_step (Ok g) s h more = ?
-  by_step (Err d) s h more = ?
+  by_step (Ok g) s h more = longer g s (more g h)
+  by_step (Err d) s h more =
+      let p = err_pair (n + 1) m d e h in
+      inl (record { before = []; line = line; rest = ls; all = refl; number = omega (arith, p.0); front = f; leads = refl; refused = sym (step-fault f line) ∙ (ap fault s ∙ ap Some p.1) })
+
+reached-first : (ls : List (List ℕ)) (r : Result Front VolumeFault) (front : Front) → reached_after ls r ≡ Ok front → (g : Front) × (r ≡ Ok g) × (reached g ls ≡ Ok front)
+reached-first ls (Ok g) front h = (g, refl, h)
+reached-first ls (Err d) front h = cc
+
+line-run : (before : List (List ℕ)) (f : Front) (n : ℕ) (line : List ℕ) (rest : List (List ℕ)) (front : Front) (e : VolumeFault) → reached f before ≡ Ok front → line_fault front line ≡ Some e → run f n (before ++ line ∷ rest) ≡ Err (n + (length before + 1), e)
+line-run [] f n line rest front e h r =
+    ap (after n rest) (fault-Err (step f line) e (step-fault f line ∙ (ap (λ (g : Front). line_fault g line) (same_Ok f front h) ∙ r)))
+line-run (b ∷ bs) f n line rest front e h r =
+    let p = reached-first bs (step f b) front h in
+    let k : (n + 1) + (length bs + 1) ≡ n + (length (b ∷ bs) + 1) = omega arith in
+    ap (after n (bs ++ line ∷ rest)) p.1 ∙ (line-run bs p.0 (n + 1) line rest front e p.2 r ∙ ap (λ (k : ℕ). Err (k, e)) k)
+
+end-run : (ls : List (List ℕ)) (f : Front) (n : ℕ) (front : Front) (e : VolumeFault) → reached f ls ≡ Ok front → finish front ≡ Err e → run f n ls ≡ Err (n + length ls, e)
+end-run [] f n front e h r =
+    let k : n ≡ n + 0 = omega arith in
+    ap (numbered n) (ap finish (same_Ok f front h) ∙ r) ∙ ap (λ (k : ℕ). Err (k, e)) k
+end-run (b ∷ bs) f n front e h r =
+    let p = reached-first bs (step f b) front h in
+    let k : (n + 1) + length bs ≡ n + length (b ∷ bs) = omega arith in
+    ap (after n bs) p.1 ∙ (end-run bs p.0 (n + 1) front e p.2 r ∙ ap (λ (k : ℕ). Err (k, e)) k)
+
+-- the fault that is answered is the first
+pub outcome-fault : (bytes : List ℕ) (n : ℕ) (e : VolumeFault) → outcome bytes ≡ Err (n, e) → IsFirstFault bytes n e
+outcome-fault bytes n e h = by_size (nat_lt (2 ^ 20) (length bytes)) refl h where
+  of_lines : FaultFrom start 0 (lines bytes) n e → IsLineFault bytes n e ⊎ IsEndFault bytes n e
+  of_lines (inl l) = inl (record { before = l.before; line = l.line; rest = l.rest; all = l.all; number = omega (arith, l.number); front = l.front; leads = l.leads; refused = l.refused })
+  of_lines (inr l) = inr (record { number = omega (arith, l.number); front = l.front; leads = l.leads; refused = l.refused })
+  by_size : (b : Bool) → nat_lt (2 ^ 20) (length bytes) ≡ b → ◌≡◌ {A = Result Outline (ℕ × VolumeFault)} (if b then Err (0, TooLong) else run start 0 (lines bytes)) (Err (n, e)) → IsFirstFault bytes n e
+  by_size true s h = let p = err_pair 0 n TooLong e h in inl (ltb-true (2 ^ 20) (length bytes) s, sym p.0, sym p.1)
+  by_size false s h = inr (ltb-false (2 ^ 20) (length bytes) s, of_lines (run-fault (lines bytes) start 0 n e h))
+
+-- the first fault is answered
+pub fault-outcome : (bytes : List ℕ) (n : ℕ) (e : VolumeFault) → IsFirstFault bytes n e → outcome bytes ≡ Err (n, e)
+fault-outcome bytes n e (inl h) =
+    at_true (nat_lt (2 ^ 20) (length bytes)) (Err (0, TooLong)) (run start 0 (lines bytes)) (lt-ltb (2 ^ 20) (length bytes) h.0)
+    ∙ (ap (λ (k : ℕ). Err (k, TooLong)) (sym h.1) ∙ ap (λ (d : VolumeFault). Err (n, d)) (sym h.2))
+fault-outcome bytes n e (inr h) =
+    at_false (nat_lt (2 ^ 20) (length bytes)) (Err (0, TooLong)) (run start 0 (lines bytes)) (le-ltb (2 ^ 20) (length bytes) h.0) ∙ of_lines h.1 where
+  of_lines : IsLineFault bytes n e ⊎ IsEndFault bytes n e → run start 0 (lines bytes) ≡ Err (n, e)
+  of_lines (inl l) =
+      let k : 0 + (length l.before + 1) ≡ n = omega (arith, l.number) in
+      ap (run start 0) l.all ∙ (line-run l.before start 0 l.line l.rest l.front e l.leads l.refused ∙ ap (λ (k : ℕ). Err (k, e)) k)
+  of_lines (inr l) =
+      let k : 0 + length (lines bytes) ≡ n = omega (arith, l.number) in
+      end-run (lines bytes) start 0 l.front e l.leads l.refused ∙ ap (λ (k : ℕ). Err (k, e)) k

@@ -124,3 +124,8 @@ abbrev pub IsFirstFault : List ℕ → ℕ → VolumeFault → Type 0
 IsFirstFault bytes n fault =
     ((2 ^ 20 < length bytes) × (n ≡ 0) × (fault ≡ TooLong))
     ⊎ ((length bytes ≤ 2 ^ 20) × (IsLineFault bytes n fault ⊎ IsEndFault bytes n fault))
+
+-- the same, but for want of memory, beside which the number tells nothing
+abbrev pub IsFirstFaultOr : List ℕ → ℕ → VolumeFault → Type 0
+IsFirstFaultOr bytes n NoMemory = Unit {0}
+IsFirstFaultOr bytes n fault = IsFirstFault bytes n fault

@@ -5,3 +5,4 @@ pub mod Numbers
 pub mod Options
 pub mod Sections
 pub mod Statements
+pub mod Volumes

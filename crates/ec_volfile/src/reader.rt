@@ -1,7 +1,11 @@
 // Reading a volume file.
-ghost use Rattle.std.specs.Prelude.{◌≡◌, ◌^◌, ◌≤◌, length};
+ghost use Rattle.std.specs.Prelude.{ℕ, ◌^◌, ◌≤◌, length, IfOk, IfErr};
+ghost use Rattle.ec_volfile.specs.declared.fault.VolumeFault.{VolumeFault};
+ghost use Rattle.ec_volfile.specs.Faults.{IsFirstFault, IsFirstFaultOr};
+ghost use Rattle.ec_volfile.specs.Grammar.{IsVolumeFile};
 ghost use Rattle.ec_volfile.specs.Lines.{lines};
-ghost use Rattle.ec_volfile.specs.Sections.{Reads, outcome, run, start};
+ghost use Rattle.ec_volfile.specs.Sections.{Outline, Reads, outcome, outline, run, start};
+ghost use Rattle.ec_volfile.specs.Volumes.{IsVolume};
 
 use crate::fault::VolumeFault;
 use crate::lines::first_line;
@@ -35,12 +39,28 @@ fn read_lines(alloc: Global, bytes: &[u8]) -> Result<Volume, (u64, VolumeFault)>
     }
 }
 
-/// The volume that a volume file describes, or its first fault with the number of its line, from 1 on.
-pub fn read(alloc: Global, bytes: &[u8]) -> Result<Volume, (u64, VolumeFault)>
-    ensures exact { Reads result (outcome bytes.now) }
+/// What `read` gives, by the steps of the grammar.
+fn read_file(alloc: Global, bytes: &[u8]) -> Result<Volume, (u64, VolumeFault)>
+    ensures { Reads result (outcome bytes.now) }
 {
     if bytes.len() > MOST_BYTES {
         return Err((0, VolumeFault::TooLong));
     }
     read_lines(alloc, bytes)
+}
+
+/// The volume that a volume file describes, or the file's first fault with the number of its line, from 1 on.
+pub fn read(alloc: Global, bytes: &[u8]) -> Result<Volume, (u64, VolumeFault)>
+    // What is read is in the grammar and has its meaning. What is in the grammar is read, unless memory runs out.
+    ensures found { IfOk result (λ v. IsVolumeFile bytes.now (outline v)) }
+    ensures only { (o : Outline) → IsVolumeFile bytes.now o → Reads result (Ok o) }
+
+    // What is refused has this fault first. What has a first fault is refused with it, unless memory runs out.
+    ensures fault { IfErr result (λ e. IsFirstFaultOr bytes.now e.0 e.1) }
+    ensures first { (n : ℕ) (e : VolumeFault) → IsFirstFault bytes.now n e → Reads result (Err (n, e)) }
+
+    // As many different bricks as the geometry says, a cache of at most 10, a window from 1 to 1024.
+    ensures volume { IfOk result (λ v. IsVolume (outline v)) }
+{
+    read_file(alloc, bytes)
 }

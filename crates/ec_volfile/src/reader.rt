@@ -5,7 +5,7 @@ ghost use Rattle.ec_volfile.specs.Faults.{IsFirstFault, IsFirstFaultOr};
 ghost use Rattle.ec_volfile.specs.Grammar.{IsVolumeFile};
 ghost use Rattle.ec_volfile.specs.Lines.{lines};
 ghost use Rattle.ec_volfile.specs.Sections.{Outline, Reads, outcome, outline, run, start};
-ghost use Rattle.ec_volfile.specs.Volumes.{IsVolume};
+ghost use Rattle.ec_volfile.specs.Volumes.{HasWords, IsVolume};
 
 use crate::fault::VolumeFault;
 use crate::lines::first_line;
@@ -61,6 +61,7 @@ pub fn read(alloc: Global, bytes: &[u8]) -> Result<Volume, (u64, VolumeFault)>
 
     // As many different bricks as the geometry says, a cache of at most 10, a window from 1 to 1024.
     ensures volume { IfOk result (λ v. IsVolume (outline v)) }
+    ensures words { IfOk result (λ v. HasWords (outline v)) }
 {
     read_file(alloc, bytes)
 }

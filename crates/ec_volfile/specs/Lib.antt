@@ -3,6 +3,7 @@ pub mod Grammar
 pub mod Lines
 pub mod Numbers
 pub mod Options
+pub mod Printed
 pub mod Sections
 pub mod Statements
 pub mod Volumes

@@ -8,6 +8,7 @@ mod fault;
 mod lines;
 mod number;
 mod options;
+mod printer;
 mod reader;
 mod section;
 mod state;

@@ -7,6 +7,7 @@ pub mod LineLaws
 pub mod LineLemmas
 pub mod Meanings
 pub mod Names
+pub mod PrintLemmas
 pub mod ReadLaws
 pub mod Shapes
 pub mod StatementLaws

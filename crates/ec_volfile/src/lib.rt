@@ -15,5 +15,6 @@ mod state;
 mod volume;
 
 pub use fault::VolumeFault;
+pub use printer::print;
 pub use reader::read;
 pub use volume::{BlobList, Kernel, Volume};

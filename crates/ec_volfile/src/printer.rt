@@ -1,5 +1,5 @@
 // Printing a volume file.
-ghost use Rattle.std.specs.Prelude.{◌≡◌, ◌++◌, ◌≤◌, ◌^◌, length, IfOk, OnOk};
+ghost use Rattle.std.specs.Prelude.{◌≡◌, ◌++◌, ◌≤◌, ◌^◌, codes, length, IfOk, OnOk};
 ghost use Rattle.ec_volfile.specs.Grammar.{IsVolumeFile};
 ghost use Rattle.ec_volfile.specs.Printed.{ended_line, eager_text, kernel_text, option_line, policy_text, rows_text, spaced, text_of};
 ghost use Rattle.ec_volfile.specs.Sections.{outline};
@@ -64,7 +64,7 @@ fn put_option(text: &mut Blob, key: &[u8], value: &[u8]) -> Result<(), AllocErro
     text.push(b'\n')
 }
 
-/// Adds the line of the subvolumes.
+/// Adds the names, each behind a space.
 fn put_names(text: &mut Blob, names: &BlobList) -> Result<(), AllocError>
     ensures { OnOk result (text.new ≡ text.old ++ spaced names.now) }
 {
@@ -73,4 +73,55 @@ fn put_names(text: &mut Blob, names: &BlobList) -> Result<(), AllocError>
         text.extend(name.items())?;
     }
     Ok(())
+}
+
+/// Adds the line of the subvolumes.
+fn put_subvolumes(text: &mut Blob, names: &BlobList) -> Result<(), AllocError>
+    ensures { OnOk result (text.new ≡ text.old ++ ended_line (codes "    subvolumes" ++ spaced names.now)) }
+{
+    text.extend(b"    subvolumes")?;
+    put_names(text, names)?;
+    text.push(b'\n')
+}
+
+/// The text of the volume: one disperse section with every option.
+fn text_of(alloc: Global, v: &Volume) -> Result<Blob, AllocError>
+    ensures { IfOk result (λ t. t ≡ text_of (outline v.now)) }
+{
+    let mut numbers = Buffer::new();
+    let mut text = Blob::new(alloc);
+    put_line(&mut text, b"volume ", v.name.items())?;
+    put_line(&mut text, b"    type cluster/disperse", b"")?;
+    put_option(
+        &mut text,
+        b"redundancy",
+        numbers.format(v.geometry.r).as_bytes(),
+    )?;
+    put_option(&mut text, b"read-policy", policy_text(v.policy))?;
+    put_option(&mut text, b"eager-lock", eager_text(v.eager))?;
+    put_option(
+        &mut text,
+        b"stripe-cache",
+        numbers.format(v.cache).as_bytes(),
+    )?;
+    put_option(
+        &mut text,
+        b"self-heal-window-size",
+        numbers.format(v.window).as_bytes(),
+    )?;
+    put_option(&mut text, b"cpu-extensions", kernel_text(v.kernel))?;
+    put_option(&mut text, b"code-rows", rows_text(v.geometry.algorithm))?;
+    put_subvolumes(&mut text, &v.bricks)?;
+    put_line(&mut text, b"end-volume", b"")?;
+    Ok(text)
+}
+
+/// The volume file of a volume: one disperse section with every option.
+pub fn print(alloc: Global, v: &Volume) -> Result<Blob, AllocError>
+    ensures text { IfOk result (λ t. t ≡ text_of (outline v.now)) }
+
+    // The text is in the grammar and means this volume, so `read` gives it back.
+    ensures meaning { IfOk result (λ t. IsVolume (outline v.now) → HasWords (outline v.now) → length t ≤ 2 ^ 20 → IsVolumeFile t (outline v.now)) }
+{
+    text_of(alloc, v)
 }

@@ -230,7 +230,7 @@ leads_on (place.Body t) d found line fls o c = body_on t d found line fls o c.it
 filled-passed : (line : List ℕ) (ls : List (List ℕ)) → is_passed line ≡ true → filled (line ∷ ls) ≡ filled ls
 filled-passed line ls e = ap (λ (t : Bool). if not t then line ∷ filled ls else filled ls) e
 
-filled-some : (line : List ℕ) (ls : List (List ℕ)) → is_passed line ≡ false → filled (line ∷ ls) ≡ line ∷ filled ls
+pub filled-some : (line : List ℕ) (ls : List (List ℕ)) → is_passed line ≡ false → filled (line ∷ ls) ≡ line ∷ filled ls
 filled-some line ls e = ap (λ (t : Bool). if not t then line ∷ filled ls else filled ls) e
 
 found-some : (found : Option Outline) (o : Outline) → ok_or found NoDisperse ≡ Ok o → found ≡ Some o

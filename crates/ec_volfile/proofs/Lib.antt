@@ -1,4 +1,5 @@
 pub mod Bodies
+pub mod Decimals
 pub mod FaultLaws
 pub mod GrammarLaws
 pub mod Items

@@ -78,7 +78,7 @@ reads-volume (Ok v) bytes h = file-volume bytes (outline v) (outcome-grammar byt
 reads-volume (Err e) bytes h = tt
 
 -- the lines have no newline, and their words no blank
-abbrev NoNewline : List ℕ → Type 0
+abbrev pub NoNewline : List ℕ → Type 0
 NoNewline line = AllByRecursion (λ b. b ≢ 10) line
 
 onto-clean : (b : ℕ) (ls : List (List ℕ)) → b ≢ 10 → AllByRecursion NoNewline ls → AllByRecursion NoNewline (onto_first b ls)
@@ -98,7 +98,7 @@ filled-clean (l ∷ ls) h =
     let more = filled-clean ls h.1 in
     elim (is_passed l) as (λ (t : Bool). AllByRecursion NoNewline (if not t then l ∷ filled ls else filled ls)) [ true ↦ more | false ↦ (h.0, more) ]
 
-abbrev IsClean : List ℕ → Type 0
+abbrev pub IsClean : List ℕ → Type 0
 IsClean part = AllByRecursion (λ b. (is_blank b ≡ false) × (b ≢ 10)) part
 
 onto-part : (b : ℕ) (ps : List (List ℕ)) → (is_blank b ≡ false) × (b ≢ 10) → AllByRecursion IsClean ps → AllByRecursion IsClean (onto_first b ps)

@@ -8,6 +8,7 @@ pub mod LineLaws
 pub mod LineLemmas
 pub mod Meanings
 pub mod Names
+pub mod PrintLaws
 pub mod PrintLemmas
 pub mod ReadLaws
 pub mod Shapes

@@ -1,5 +1,5 @@
 -- A chunk: 8 bit planes of 64 bytes. Element e has its bit i in plane i.
-use Rattle.std.specs.Prelude.{◌≡◌, ℕ, ◌+◌, ◌*◌, ◌/◌, ◌%◌, ◌^◌, ◌<◌, List, length, slice_index}
+use Rattle.std.specs.Prelude.{◌≡◌, ℕ, ◌+◌, ◌*◌, ◌/◌, ◌%◌, ◌^◌, ◌<◌, List, length, slice_index, replicate}
 use Rattle.std.specs.Int.{bit_at}
 use Rattle.ec_field.specs.Field.{sum_below}
 
@@ -20,6 +20,6 @@ pub record IsChunk (chunk : List ℕ) : Type 0 where
   pub len : length chunk ≡ 512
   pub bytes : (i : ℕ) → slice_index chunk i < 2 ^ 8
 
--- Chunks with the same 512 elements are equal.
-abbrev pub ElementsDetermine : Type 0
-ElementsDetermine = (a b : List ℕ) → IsChunk a → IsChunk b → ((e : ℕ) → e < 512 → element a e ≡ element b e) → a ≡ b
+-- a chunk of zeros
+unfoldable pub zero_chunk : List ℕ
+zero_chunk = replicate 512 0

@@ -1,5 +1,6 @@
 // Arithmetic of the field of 256 elements, modulo x^8+x^4+x^3+x^2+1 (0x11D).
 ghost use Rattle.std.specs.Prelude.{◌≡◌, bit_xor};
+ghost use Rattle.std.specs.Int.NonZero.{non_zero_u8_get};
 ghost use Rattle.ec_field.specs.Field.{product, power, IsField};
 
 use std::num::NonZeroU8;
@@ -27,7 +28,7 @@ pub fn mul(a: u8, b: u8) -> u8
 
 /// The inverse of an element, its power 254.
 pub fn inv(a: NonZeroU8) -> NonZeroU8
-    ensures { product a result ≡ 1 }
+    ensures { product (non_zero_u8_get a) (non_zero_u8_get result) ≡ 1 }
 {
     NonZeroU8::new(pow(a.get(), 254)).unwrap()
 }
@@ -52,5 +53,4 @@ pub fn pow(a: u8, n: u32) -> u8
 /// Bytes are a field: a law for the proofs that stand on it. It does nothing when it runs.
 pub fn field_laws()
     ensures { IsField }
-{
-}
+{}

@@ -1,6 +1,6 @@
 // A chunk of 512 bytes, and its elements.
-ghost use Rattle.std.specs.Prelude.{◌≡◌, ◌<◌, ℕ, slice_index, replicate};
-ghost use Rattle.ec_field.specs.Chunk.{element, IsChunk};
+ghost use Rattle.std.specs.Prelude.{◌≡◌, ◌<◌};
+ghost use Rattle.ec_field.specs.Chunk.{element, zero_chunk, IsChunk};
 
 use std::marker::Model;
 
@@ -27,7 +27,7 @@ impl Model for Chunk {
 impl Chunk {
     /// 512 bytes of zeros.
     pub fn zero() -> Chunk
-        ensures value { result ≡ replicate 512 0 }
+        ensures value { result ≡ zero_chunk }
         ensures chunk { IsChunk result }
     {
         Chunk { bytes: [0; 512] }
@@ -35,7 +35,7 @@ impl Chunk {
 
     /// A chunk of these bytes.
     pub fn from_array(a: [u8; 512]) -> Chunk
-        ensures value { result ≡ a.entry }
+        ensures value { result ≡ a }
         ensures chunk { IsChunk result }
     {
         Chunk { bytes: a }

@@ -9,3 +9,6 @@ mod chunk;
 
 pub use arithmetic::{add, field_laws, inv, mul, pow};
 pub use chunk::{Chunk, element};
+
+#[cfg(test)]
+mod tests;

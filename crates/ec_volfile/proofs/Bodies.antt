@@ -15,7 +15,7 @@ use Rattle.ec_volfile.specs.Sections.{named, with_options, repeats, subvolumes_o
 use Rattle.ec_volfile.specs.Grammar.{Item, Sets, Names, names_in}
 use Rattle.ec_volfile.proofs.WordLemmas.{at_true, at_false}
 use Rattle.ec_volfile.proofs.Keys.{with_value, key_values}
-use Rattle.ec_volfile.proofs.StatementLaws.{with_names, take_item}
+use Rattle.ec_volfile.specs.Statements.{with_names, take_item}
 use Rattle.ec_volfile.proofs.Items.{Becomes, take_items, set_by-Ok, becomes-named, named-becomes, becomes-names, names-becomes}
 
 same_Ok : {A : Type 0} (s u : A) → ◌≡◌ {A = Result A VolumeFault} (Ok s) (Ok u) → s ≡ u

@@ -16,10 +16,9 @@ use Rattle.ec_volfile.specs.Numbers.{number_of}
 use Rattle.ec_volfile.specs.Options.{key_of, policy_of, eager_of, cache_of, window_of, kernel_of, systematic_of, once, set, set_by}
 use Rattle.ec_volfile.specs.Sections.{Front, Outline, new_section, typed, named, with_options, repeats, subvolumes_of, disperse_names, other_names, is_geometry, subvolumes_or, outline_of, volume_with, ended, step, start, finish, numbered, run, outcome}
 use Rattle.ec_volfile.specs.Grammar.{is_passed, Item, Sets, Names, disperse_type}
-use Rattle.ec_volfile.specs.Statements.{Statement, Begins, HasType, Holds, Ends, statement_of}
+use Rattle.ec_volfile.specs.Statements.{Statement, Begins, HasType, Holds, Ends, statement_of, with_names, lead, lead_if, advance}
 use Rattle.ec_volfile.specs.Faults.{is_set, is_bad, on_key, is_twice, shape_fault, first_fault, fault_by, line_fault, reached, IsLineFault, IsEndFault, IsFirstFault}
 use Rattle.ec_volfile.proofs.WordLemmas.{at_true, at_false}
-use Rattle.ec_volfile.proofs.StatementLaws.{with_names, take_item, lead, lead_if}
 use Rattle.ec_volfile.proofs.LineLaws.{step-passed, step-stated}
 
 -- the fault of a result
@@ -98,6 +97,13 @@ lead-fault (place.Body s) d found (Holds (Sets key value)) = fault-set_by (λ (s
 lead-fault (place.Body s) d found (Holds (Names names)) = fault-set_by (λ (s : OpenSection). at_front (place.Body s) d found) (with_names s names s.subvolumes) ∙ names-fault s names
 lead-fault (place.Body s) d found Ends = end-fault s d found
 
+-- each step is by what the line says
+pub step-advance : (f : Front) (line : List ℕ) → step f line ≡ advance f line
+step-advance f line = by_line (is_passed line) refl where
+  by_line : (b : Bool) → is_passed line ≡ b → step f line ≡ advance f line
+  by_line true h = step-passed f line h ∙ sym (at_true (is_passed line) (Ok f) (lead_if f f.place (statement_of line)) h)
+  by_line false h = step-stated f line h ∙ sym (at_false (is_passed line) (Ok f) (lead_if f f.place (statement_of line)) h)
+
 -- the fault of a step is the first of the table whose cause is there
 pub step-fault : (f : Front) (line : List ℕ) → fault (step f line) ≡ line_fault f line
 step-fault f line = by_line (is_passed line) refl where
@@ -158,8 +164,8 @@ run-fault [] f n m e h =
     inr (record { number = omega (arith, p.0); front = f; leads = refl; refused = p.1 })
 run-fault (line ∷ ls) f n m e h = by_step (step f line) refl h (λ g. run-fault ls g (n + 1) m e) where
   longer : (g : Front) → step f line ≡ Ok g → FaultFrom g (n + 1) ls m e → FaultFrom f n (line ∷ ls) m e
-  longer g s (inl l) = inl (record { before = line ∷ l.before; line = l.line; rest = l.rest; all = ap (λ (x : List (List ℕ)). line ∷ x) l.all; number = omega (arith, l.number); front = l.front; leads = ap (reached_after l.before) s ∙ l.leads; refused = l.refused })
-  longer g s (inr l) = inr (record { number = omega (arith, l.number); front = l.front; leads = ap (reached_after ls) s ∙ l.leads; refused = l.refused })
+  longer g s (inl l) = inl (record { before = line ∷ l.before; line = l.line; rest = l.rest; all = ap (λ (x : List (List ℕ)). line ∷ x) l.all; number = omega (arith, l.number); front = l.front; leads = ap (reached_after l.before) (sym (step-advance f line) ∙ s) ∙ l.leads; refused = l.refused })
+  longer g s (inr l) = inr (record { number = omega (arith, l.number); front = l.front; leads = ap (reached_after ls) (sym (step-advance f line) ∙ s) ∙ l.leads; refused = l.refused })
   by_step : (r : Result Front VolumeFault) → step f line ≡ r → after n ls r ≡ Err (m, e) → ((g : Front) → run g (n + 1) ls ≡ Err (m, e) → FaultFrom g (n + 1) ls m e) → FaultFrom f n (line ∷ ls) m e
   by_step (Ok g) s h more = longer g s (more g h)
   by_step (Err d) s h more =
@@ -174,18 +180,18 @@ line-run : (before : List (List ℕ)) (f : Front) (n : ℕ) (line : List ℕ) (r
 line-run [] f n line rest front e h r =
     ap (after n rest) (fault-Err (step f line) e (step-fault f line ∙ (ap (λ (g : Front). line_fault g line) (same_Ok f front h) ∙ r)))
 line-run (b ∷ bs) f n line rest front e h r =
-    let p = reached-first bs (step f b) front h in
+    let p = reached-first bs (advance f b) front h in
     let k : (n + 1) + (length bs + 1) ≡ n + (length (b ∷ bs) + 1) = omega arith in
-    ap (after n (bs ++ line ∷ rest)) p.1 ∙ (line-run bs p.0 (n + 1) line rest front e p.2 r ∙ ap (λ (k : ℕ). Err (k, e)) k)
+    ap (after n (bs ++ line ∷ rest)) (step-advance f b ∙ p.1) ∙ (line-run bs p.0 (n + 1) line rest front e p.2 r ∙ ap (λ (k : ℕ). Err (k, e)) k)
 
 end-run : (ls : List (List ℕ)) (f : Front) (n : ℕ) (front : Front) (e : VolumeFault) → reached f ls ≡ Ok front → finish front ≡ Err e → run f n ls ≡ Err (n + length ls, e)
 end-run [] f n front e h r =
     let k : n ≡ n + 0 = omega arith in
     ap (numbered n) (ap finish (same_Ok f front h) ∙ r) ∙ ap (λ (k : ℕ). Err (k, e)) k
 end-run (b ∷ bs) f n front e h r =
-    let p = reached-first bs (step f b) front h in
+    let p = reached-first bs (advance f b) front h in
     let k : (n + 1) + length bs ≡ n + length (b ∷ bs) = omega arith in
-    ap (after n bs) p.1 ∙ (end-run bs p.0 (n + 1) front e p.2 r ∙ ap (λ (k : ℕ). Err (k, e)) k)
+    ap (after n bs) (step-advance f b ∙ p.1) ∙ (end-run bs p.0 (n + 1) front e p.2 r ∙ ap (λ (k : ℕ). Err (k, e)) k)
 
 -- the fault that is answered is the first
 pub outcome-fault : (bytes : List ℕ) (n : ℕ) (e : VolumeFault) → outcome bytes ≡ Err (n, e) → IsFirstFault bytes n e

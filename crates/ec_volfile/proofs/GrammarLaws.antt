@@ -14,8 +14,7 @@ use Rattle.ec_volfile.specs.Options.{set_by}
 use Rattle.ec_volfile.specs.Sections.{Front, Outline, new_section, typed, volume_of, ended, step, start, finish_at, finish, numbered, run, outcome}
 use Rattle.ec_volfile.specs.Grammar.{is_passed, filled, Item, IsItem, Section, Closes, Follows, IsSection, AreSections, names_in, disperse_type, Describes, IsOther, IsVolumeFile}
 use Rattle.ec_volfile.proofs.WordLemmas.{at_true, at_false}
-use Rattle.ec_volfile.specs.Statements.{Statement, Begins, HasType, Holds, Ends, Says}
-use Rattle.ec_volfile.proofs.StatementLaws.{take_item, lead}
+use Rattle.ec_volfile.specs.Statements.{Statement, Begins, HasType, Holds, Ends, Says, take_item, lead}
 use Rattle.ec_volfile.proofs.LineLaws.{LeadsBy, step-passed, step-says, step-of}
 use Rattle.ec_volfile.proofs.Keys.{key_values}
 use Rattle.ec_volfile.proofs.Items.{Becomes, take_items, set_by-Ok}

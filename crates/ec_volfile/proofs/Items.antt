@@ -16,7 +16,7 @@ use Rattle.ec_volfile.specs.Sections.{named, with_options, repeats, subvolumes_o
 use Rattle.ec_volfile.specs.Grammar.{Item, Sets, Names, names_in}
 use Rattle.ec_volfile.proofs.WordLemmas.{at_true, at_false}
 use Rattle.ec_volfile.proofs.Keys.{is_key, with_value, key_values}
-use Rattle.ec_volfile.proofs.StatementLaws.{with_names, take_item}
+use Rattle.ec_volfile.specs.Statements.{with_names, take_item}
 
 abbrev pub kernel_some : List ℕ → Option Kernel
 kernel_some value = Some (kernel_of value)

@@ -11,8 +11,8 @@ use Rattle.ec_volfile.specs.declared.fault.VolumeFault.{VolumeFault}
 use Rattle.ec_volfile.specs.declared.fault.VolumeFault.TheVariants.{BadLine}
 use Rattle.ec_volfile.specs.Grammar.{is_remark, is_passed, value_of, Item, Sets, Names, IsItem}
 use Rattle.ec_volfile.proofs.WordLemmas.{at_true, at_false, solid, skip_twice, words_skip, words_first, next_words}
-use Rattle.ec_volfile.specs.Statements.{Statement, Begins, HasType, Holds, Ends, Says, begins, has_type, stated, first_word, arguments, statement_of}
-use Rattle.ec_volfile.proofs.StatementLaws.{lead, lead_if, by_statement, KeywordSays, keyword_says}
+use Rattle.ec_volfile.specs.Statements.{Statement, Begins, HasType, Holds, Ends, Says, begins, has_type, stated, first_word, arguments, statement_of, lead, lead_if}
+use Rattle.ec_volfile.proofs.StatementLaws.{by_statement, KeywordSays, keyword_says}
 
 pub record HasWord (line : List ℕ) : Type 0 where
   pub b : ℕ

@@ -15,29 +15,8 @@ use Rattle.ec_volfile.specs.Lines.{is_blank, words, skip_blanks, trimmed, word_o
 use Rattle.ec_volfile.specs.Options.{key_of, set_by}
 use Rattle.ec_volfile.specs.Sections.{Front, keyword_of, one_word, begun, outside, typed, head, named, option, disperse_names, other_names, subvolumes, item, ended, body, at_place, obey, step}
 use Rattle.ec_volfile.specs.Grammar.{is_remark, Item, Sets, Names}
-use Rattle.ec_volfile.specs.Statements.{Statement, Begins, HasType, Holds, Ends, begins, has_type, stated}
+use Rattle.ec_volfile.specs.Statements.{Statement, Begins, HasType, Holds, Ends, begins, has_type, stated, with_names, take_item, lead, lead_if}
 use Rattle.ec_volfile.proofs.WordLemmas.{at_true, at_false, solid, skip_twice, words_skip, words_first, next_words}
-
--- what a section becomes by an item
-abbrev pub with_names : OpenSection → List (List ℕ) → Option Subvolumes → Result OpenSection VolumeFault
-with_names s names (Some old) = Err Twice
-with_names s names None = if s.disperse then disperse_names s names else other_names s
-
-abbrev pub take_item : OpenSection → Item → Result OpenSection VolumeFault
-take_item s (Sets key value) = named s (key_of key) value
-take_item s (Names names) = with_names s names s.subvolumes
-
--- what a statement leads to
-abbrev pub lead : Front → Place → Statement → Result Front VolumeFault
-lead f place.Outside (Begins name) = Ok (record f { place = place.Head name })
-lead f (place.Head name) (HasType type) = set_by (λ s. record f { place = place.Body s; disperse = f.disperse || s.disperse }) (typed f.disperse name (Some type))
-lead f (place.Body s) (Holds item) = set_by (λ s. record f { place = place.Body s }) (take_item s item)
-lead f (place.Body s) Ends = ended f s
-lead f p st = Err BadLine
-
-abbrev pub lead_if : Front → Place → Option Statement → Result Front VolumeFault
-lead_if f p None = Err BadLine
-lead_if f p (Some st) = lead f p st
 
 -- where the place takes no such statement
 no_name : (f : Front) (p : Place) (o : Option (List ℕ)) → ((name : List ℕ) → lead f p (Begins name) ≡ Err BadLine) → Err BadLine ≡ lead_if f p (begins o)

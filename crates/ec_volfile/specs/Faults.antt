@@ -10,9 +10,9 @@ use Rattle.ec_volfile.specs.declared.state.Place.TheVariants as place
 use Rattle.ec_volfile.specs.Lines.{lines}
 use Rattle.ec_volfile.specs.Numbers.{number_of}
 use Rattle.ec_volfile.specs.Options.{key_of, policy_of, eager_of, cache_of, window_of, systematic_of}
-use Rattle.ec_volfile.specs.Sections.{Front, repeats, is_geometry, subvolumes_or, step, start, finish}
+use Rattle.ec_volfile.specs.Sections.{Front, repeats, is_geometry, subvolumes_or, start, finish}
 use Rattle.ec_volfile.specs.Grammar.{Sets, Names, is_passed, disperse_type}
-use Rattle.ec_volfile.specs.Statements.{Statement, Begins, HasType, Holds, Ends, statement_of}
+use Rattle.ec_volfile.specs.Statements.{Statement, Begins, HasType, Holds, Ends, statement_of, advance}
 
 -- the option is set already
 abbrev pub is_set : Options → Key → Bool
@@ -99,7 +99,7 @@ line_fault f line = if is_passed line then None else fault_by f (statement_of li
 -- where lines lead that have no fault
 abbrev pub reached : Front → List (List ℕ) → Result Front VolumeFault
 reached f [] = Ok f
-reached f (line ∷ ls) = elim (step f line) [ Ok g ↦ reached g ls | Err e ↦ Err e ]
+reached f (line ∷ ls) = elim (advance f line) [ Ok g ↦ reached g ls | Err e ↦ Err e ]
 
 -- a line has this fault, and the lines before it have none
 pub record IsLineFault (bytes : List ℕ) (n : ℕ) (fault : VolumeFault) : Type 0 where

@@ -148,7 +148,7 @@ abbrev error_parts : Result Outline (ℕ × VolumeFault) → ℕ × VolumeFault
 error_parts (Ok x) = (0, TooLong)
 error_parts (Err e) = e
 
-err_pair : (n m : ℕ) (d e : VolumeFault) → ◌≡◌ {A = Result Outline (ℕ × VolumeFault)} (Err (n, d)) (Err (m, e)) → (n ≡ m) × (d ≡ e)
+pub err_pair : (n m : ℕ) (d e : VolumeFault) → ◌≡◌ {A = Result Outline (ℕ × VolumeFault)} (Err (n, d)) (Err (m, e)) → (n ≡ m) × (d ≡ e)
 err_pair n m d e h = (ap (λ r. (error_parts r).0) h, ap (λ r. (error_parts r).1) h)
 
 numbered-fault : (n m : ℕ) (e : VolumeFault) (r : Result Outline VolumeFault) → numbered n r ≡ Err (m, e) → (n ≡ m) × (r ≡ Err e)

@@ -1,6 +1,7 @@
 pub mod Bodies
 pub mod Decimals
 pub mod FaultLaws
+pub mod FileLaws
 pub mod GrammarLaws
 pub mod Items
 pub mod Keys

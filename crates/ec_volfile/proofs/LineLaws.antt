@@ -168,6 +168,13 @@ step-says f g line p e = by_word (first_or_none line) where
       (sym (obey-some f (keyword_of (first_word line)) (arguments line) (says_nothing line w p)) ∙ e)
       (λ st h. stated-says line (w.b ∷ w.bs) (keyword_of (first_word line)) st w.all (subst (λ (x : List ℕ). KeywordSays (keyword_of (first_word line)) x) w.first (keyword_says (first_word line))) h)
 
+-- what is stated is said
+pub stated-line : (line : List ℕ) (st : Statement) → is_passed line ≡ false → statement_of line ≡ Some st → Says line st
+stated-line line st p h = by_word (first_or_none line) where
+  by_word : ((words line ≡ []) × (first_word line ≡ [])) ⊎ HasWord line → Says line st
+  by_word (inl n) = absurd (false≢true (sym p ∙ ap is_remark n.0))
+  by_word (inr w) = stated-says line (w.b ∷ w.bs) (keyword_of (first_word line)) st w.all (subst (λ (x : List ℕ). KeywordSays (keyword_of (first_word line)) x) w.first (keyword_says (first_word line))) h
+
 -- a line whose first word is known
 record KnownWord (line : List ℕ) (word : List ℕ) (ws : List (List ℕ)) : Type 0 where
   first : first_word line ≡ word
@@ -181,10 +188,8 @@ known_word line c cs ws e = by_word (first_or_none line) where
   by_word (inl n) = let none : [] ≡ (c ∷ cs) ∷ ws = sym n.0 ∙ e in cc
   by_word (inr w) = let s = same_args w (sym w.all ∙ e) in record { first = w.first ∙ s.0; args = s.1 }
 
-step_by : (f : Front) (line word : List ℕ) (k : Keyword) (st : Statement) → first_word line ≡ word → keyword_of word ≡ k → k ≢ keyword.Nothing → stated k (arguments line) ≡ Some st → step f line ≡ lead f f.place st
-unfolding step
-step_by f line word k st w h n e =
-    ap (λ (k : Keyword). obey f k (arguments line)) (ap keyword_of w ∙ h) ∙ (obey-some f k (arguments line) n ∙ ap (lead_if f f.place) e)
+stated_by : (line word : List ℕ) (k : Keyword) (o : Option Statement) → first_word line ≡ word → keyword_of word ≡ k → stated k (arguments line) ≡ o → statement_of line ≡ o
+stated_by line word k o w h e = ap (λ (k : Keyword). stated k (arguments line)) (ap keyword_of w ∙ h) ∙ e
 
 item_stated : (t : Bool) (i : Item) → t ≡ false → (if t then None else Some (Holds i)) ≡ Some (Holds i)
 item_stated t i e = ap (λ (t : Bool). if t then None else Some (Holds i)) e
@@ -201,27 +206,33 @@ some_arguments (a ∷ as') l = omega arith
 key_first : (args key : List ℕ) (more : List (List ℕ)) → skip_blanks args ≡ args → 0 < length args → words args ≡ key ∷ more → word_of args ≡ key
 key_first args key more b l e = let w : words args ≡ word_of args ∷ words (skip_blanks (after_word args)) = next_words args b l in cc
 
--- a line that makes a statement leads on by it
-pub step-of : (f : Front) (line : List ℕ) (st : Statement) → Says line st → (is_passed line ≡ false) × (step f line ≡ lead f f.place st)
+-- what is said is stated
+pub says-stated : (line : List ℕ) (st : Statement) → Says line st → (is_passed line ≡ false) × (statement_of line ≡ Some st)
 unfolding keyword_of
-step-of f line (Begins name) e =
+says-stated line (Begins name) e =
     let w = known_word line 118 _ (name ∷ []) e in
-    (ap is_remark e, step_by f line (codes "volume") keyword.Volume (Begins name) w.first refl (λ h. cc) (ap begins (one_word-of (arguments line) name (arguments-begin line) w.args)))
-step-of f line (HasType type) e =
+    (ap is_remark e, stated_by line (codes "volume") keyword.Volume (Some (Begins name)) w.first refl (ap begins (one_word-of (arguments line) name (arguments-begin line) w.args)))
+says-stated line (HasType type) e =
     let w = known_word line 116 _ (type ∷ []) e in
-    (ap is_remark e, step_by f line (codes "type") keyword.Type (HasType type) w.first refl (λ h. cc) (ap has_type (one_word-of (arguments line) type (arguments-begin line) w.args)))
-step-of f line (Holds (Sets key value)) e =
+    (ap is_remark e, stated_by line (codes "type") keyword.Type (Some (HasType type)) w.first refl (ap has_type (one_word-of (arguments line) type (arguments-begin line) w.args)))
+says-stated line (Holds (Sets key value)) e =
     let w = known_word line 111 _ (key ∷ e.0) e.1 in
     let l : 0 < length (trimmed (after_word (arguments line))) = omega (arith, e.3, ap length e.2) in
     let k = key_first (arguments line) key e.0 (arguments-begin line) (value_some (arguments line) l) w.args in
-    (ap is_remark e.1, step_by f line (codes "option") keyword.Option (Holds (Sets key value)) w.first refl (λ h. cc)
+    (ap is_remark e.1, stated_by line (codes "option") keyword.Option (Some (Holds (Sets key value))) w.first refl
     (item_stated (nat_eq (length (trimmed (after_word (arguments line)))) 0) (Sets (word_of (arguments line)) (trimmed (after_word (arguments line)))) (test_some (trimmed (after_word (arguments line))) l)
     ∙ (ap (λ (x : List ℕ). Some (Holds (Sets x (trimmed (after_word (arguments line)))))) k ∙ ap (λ (x : List ℕ). Some (Holds (Sets key x))) e.2)))
-step-of f line (Holds (Names names)) e =
+says-stated line (Holds (Names names)) e =
     let w = known_word line 115 _ names e.0 in
     let l : 0 < length (arguments line) = some_arguments (arguments line) (omega (arith, e.1, ap length w.args)) in
-    (ap is_remark e.0, step_by f line (codes "subvolumes") keyword.Subvolumes (Holds (Names names)) w.first refl (λ h. cc)
+    (ap is_remark e.0, stated_by line (codes "subvolumes") keyword.Subvolumes (Some (Holds (Names names))) w.first refl
     (item_stated (nat_eq (length (arguments line)) 0) (Names (words (arguments line))) (test_some (arguments line) l) ∙ ap (λ (ws : List (List ℕ)). Some (Holds (Names ws))) w.args))
-step-of f line Ends e =
+says-stated line Ends e =
     let w = known_word line 101 _ [] e in
-    (ap is_remark e, step_by f line (codes "end-volume") keyword.EndVolume Ends w.first refl (λ h. cc) (ap (λ (t : Bool). if t then Some Ends else None) (no_arguments (arguments line) (arguments-begin line) w.args)))
+    (ap is_remark e, stated_by line (codes "end-volume") keyword.EndVolume (Some Ends) w.first refl (ap (λ (t : Bool). if t then Some Ends else None) (no_arguments (arguments line) (arguments-begin line) w.args)))
+
+-- a line that makes a statement leads on by it
+pub step-of : (f : Front) (line : List ℕ) (st : Statement) → Says line st → (is_passed line ≡ false) × (step f line ≡ lead f f.place st)
+step-of f line st e =
+    let p = says-stated line st e in
+    (p.0, step-stated f line p.0 ∙ ap (lead_if f f.place) p.1)

@@ -1,5 +1,6 @@
 pub mod Faults
 pub mod Grammar
+pub mod Laws
 pub mod Lines
 pub mod Numbers
 pub mod Options

@@ -5,6 +5,7 @@
 #![tactic(auto)]
 
 mod fault;
+mod laws;
 mod lines;
 mod number;
 mod options;
@@ -15,6 +16,7 @@ mod state;
 mod volume;
 
 pub use fault::VolumeFault;
+pub use laws::volume_file_laws;
 pub use printer::print;
 pub use reader::read;
 pub use volume::{BlobList, Kernel, Volume};

@@ -5,7 +5,8 @@ use mathlib.Core.HLevel.{is_prop→PathP}
 use Rattle.ec_attr.specs.declared.geometry.Geometry.{Geometry}
 use Rattle.ec_volfile.specs.declared.fault.VolumeFault.{VolumeFault}
 use Rattle.ec_volfile.specs.declared.volume.Volume.{Volume}
-use Rattle.ec_volfile.specs.Sections.{Outline, outline, outcome}
+use Rattle.ec_volfile.specs.declared.fault.VolumeFault.TheVariants.{TooLong, BadLine, Twice, BadValue, TwoDisperse, NoRedundancy, BadGeometry, NoEnd, NoDisperse, NoMemory}
+use Rattle.ec_volfile.specs.Sections.{Outline, outline, outcome, FailsAt, Reads, IsReadAs}
 use Rattle.ec_volfile.specs.Grammar.{is_passed, IsVolumeFile}
 use Rattle.ec_volfile.specs.Faults.{IsFirstFault}
 use Rattle.ec_volfile.specs.Laws.{VolumeFileLaws}
@@ -35,7 +36,7 @@ same_geometry g h n r a = λ i. record {
   known = is_prop→PathP (λ j. a j ≤ 1) (λ j. le_prop) g.known h.known i;
 }
 
-same_volume : (v w : Volume) → outline v ≡ outline w → v ≡ w
+pub same_volume : (v w : Volume) → outline v ≡ outline w → v ≡ w
 same_volume v w e =
     let g = same_geometry v.geometry w.geometry (ap (λ (o : Outline). o.n) e) (ap (λ (o : Outline). o.r) e) (ap (λ (o : Outline). o.algorithm) e) in
     λ i. record {
@@ -43,6 +44,22 @@ same_volume v w e =
       policy = ap (λ (o : Outline). o.policy) e i; eager = ap (λ (o : Outline). o.eager) e i; cache = ap (λ (o : Outline). o.cache) e i;
       window = ap (λ (o : Outline). o.window) e i; kernel = ap (λ (o : Outline). o.kernel) e i;
     }
+
+fails-ok : (n : ℕ) (f : VolumeFault) (o : Outline) → FailsAt n f (Ok o) → f ≡ NoMemory
+fails-ok n NoMemory o h = refl
+fails-ok n TooLong o h = cc
+fails-ok n BadLine o h = cc
+fails-ok n Twice o h = cc
+fails-ok n BadValue o h = cc
+fails-ok n TwoDisperse o h = cc
+fails-ok n NoRedundancy o h = cc
+fails-ok n (BadGeometry k r) o h = cc
+fails-ok n NoEnd o h = cc
+fails-ok n NoDisperse o h = cc
+
+pub reads-again : (r : Result Volume (ℕ × VolumeFault)) (v : Volume) → Reads r (Ok (outline v)) → IsReadAs r v
+reads-again (Ok w) v h = same_volume w v (sym (same_Ok (outline v) (outline w) h))
+reads-again (Err e) v h = fails-ok e.0 e.1 (outline v) h
 
 pub laws : VolumeFileLaws
 laws = record {

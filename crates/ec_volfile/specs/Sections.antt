@@ -230,3 +230,8 @@ FailsAt n f read = read ≡ Err (n, f)
 abbrev pub Reads : Result Volume (ℕ × VolumeFault) → Result Outline (ℕ × VolumeFault) → Type 0
 Reads (Ok v) read = read ≡ Ok (outline v)
 Reads (Err e) read = FailsAt e.0 e.1 read
+
+-- what was read is this volume, unless memory ran out
+abbrev pub IsReadAs : Result Volume (ℕ × VolumeFault) → Volume → Type 0
+IsReadAs (Ok w) v = w ≡ v
+IsReadAs (Err e) v = e.1 ≡ NoMemory

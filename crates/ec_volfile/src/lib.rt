@@ -20,3 +20,6 @@ pub use laws::volume_file_laws;
 pub use printer::print;
 pub use reader::read;
 pub use volume::{BlobList, Kernel, Volume};
+
+#[cfg(test)]
+mod tests;

@@ -1,10 +1,11 @@
 // Reading a volume file.
 ghost use Rattle.std.specs.Prelude.{ℕ, ◌^◌, ◌≤◌, length, IfOk, IfErr};
 ghost use Rattle.ec_volfile.specs.declared.fault.VolumeFault.{VolumeFault};
+ghost use Rattle.ec_volfile.specs.declared.volume.Volume.{Volume};
 ghost use Rattle.ec_volfile.specs.Faults.{IsFirstFault, IsFirstFaultOr};
 ghost use Rattle.ec_volfile.specs.Grammar.{IsVolumeFile};
 ghost use Rattle.ec_volfile.specs.Lines.{lines};
-ghost use Rattle.ec_volfile.specs.Sections.{Outline, Reads, outcome, outline, run, start};
+ghost use Rattle.ec_volfile.specs.Sections.{IsReadAs, Outline, Reads, outcome, outline, run, start};
 ghost use Rattle.ec_volfile.specs.Volumes.{HasWords, IsVolume};
 
 use crate::fault::VolumeFault;
@@ -54,6 +55,9 @@ pub fn read(alloc: Global, bytes: &[u8]) -> Result<Volume, (u64, VolumeFault)>
     // What is read is in the grammar and has its meaning. What is in the grammar is read, unless memory runs out.
     ensures found { IfOk result (λ v. IsVolumeFile bytes.now (outline v)) }
     ensures only { (o : Outline) → IsVolumeFile bytes.now o → Reads result (Ok o) }
+
+    // What is printed of a volume is read as that volume.
+    ensures again { (v : Volume) → IsVolumeFile bytes.now (outline v) → IsReadAs result v }
 
     // What is refused has this fault first. What has a first fault is refused with it, unless memory runs out.
     ensures fault { IfErr result (λ e. IsFirstFaultOr bytes.now e.0 e.1) }

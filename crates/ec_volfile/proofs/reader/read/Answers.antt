@@ -1,6 +1,8 @@
 use Rattle.std.proofs.Common.{subst}
 use Rattle.ec_volfile.proofs.GrammarLaws.{grammar-outcome}
 use Rattle.ec_volfile.proofs.FaultLaws.{fault-outcome}
+use Rattle.ec_volfile.proofs.FileLaws.{reads-again}
+use Rattle.ec_volfile.specs.Sections.{outline}
 use Rattle.ec_volfile.proofs.ReadLaws.{reads-found, reads-fault, reads-volume, reads-words, reads-same}
 use Rattle.ec_volfile.proofs.reader.read.Goals as goal
 
@@ -9,6 +11,9 @@ returns-clause-found c = reads-found c.read_file.result c.args.bytes.now c.read_
 
 pub returns-clause-only : goal.returns-clause-only
 returns-clause-only c = λ o h. reads-same c.read_file.result (grammar-outcome c.args.bytes.now o h) c.read_file.ensures
+
+pub returns-clause-again : goal.returns-clause-again
+returns-clause-again c = λ v h. reads-again c.read_file.result v (reads-same c.read_file.result (grammar-outcome c.args.bytes.now (outline v) h) c.read_file.ensures)
 
 pub returns-clause-fault : goal.returns-clause-fault
 returns-clause-fault c = reads-fault c.read_file.result c.args.bytes.now c.read_file.ensures

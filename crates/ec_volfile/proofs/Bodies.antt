@@ -69,7 +69,9 @@ taken-becomes (Names names ∷ items) s t d e =
 same_section : (s t : OpenSection) → Becomes s (key_values []) [] t → s ≡ t
 same_section s t b =
     let p : t ≡ s = λ i. record {
-      name = b.name i; disperse = b.disperse i; subvolumes = b.subvolumes i;
+      name = b.name i;
+      disperse = b.disperse i;
+      subvolumes = b.subvolumes i;
       options = record { redundancy = b.redundancy i; policy = b.policy i; eager = b.eager i; cache = b.cache i; window = b.window i; kernel = b.kernel i; systematic = b.systematic i };
     } in
     sym p

@@ -38,6 +38,7 @@ decimal-says : (n : ℕ) → n < 2 ^ 64 → Says n (decimal n)
 decimal-says n l = decimal_by_steps Says one more n l where
   one : (n : ℕ) → n < 10 → Says n ((48 + n) ∷ [])
   one n l = record { digits = both (is_ascii_digit (48 + n)) true (digit n l) refl; value = omega arith }
+
   more : (n : ℕ) (ds : List ℕ) → 10 ≤ n → Says (n / 10) ds → Says n (ds ++ ((48 + n % 10) ∷ []))
   more n ds l s = record {
     digits = all_push ds (48 + n % 10) s.digits (digit (n % 10) (omega arith));

@@ -57,17 +57,20 @@ named-fault s (Some k) value =
 
 names-fault : (s : OpenSection) (names : List (List ℕ)) → fault (with_names s names s.subvolumes) ≡ (if is_some s.subvolumes || (s.disperse && repeats names) then Some Twice else None)
 names-fault s names =
-    elim s.subvolumes as (λ (o : Option Subvolumes). fault (with_names s names o) ≡ (if is_some o || (s.disperse && repeats names) then Some Twice else None))
-    [ Some y ↦ refl
-    | None ↦ elim s.disperse as (λ (b : Bool). fault {A = OpenSection} (if b then disperse_names s names else other_names s) ≡ (if b && repeats names then Some Twice else None))
-        [ true ↦ elim (repeats names) as (λ (r : Bool). fault {A = OpenSection} (if r then Err Twice else Ok (record s { subvolumes = Some (subvolumes_of names) })) ≡ (if r then Some Twice else None)) [ true ↦ refl | false ↦ refl ]
-        | false ↦ refl ] ]
+    elim s.subvolumes as (λ (o : Option Subvolumes). fault (with_names s names o) ≡ (if is_some o || (s.disperse && repeats names) then Some Twice else None)) [
+      | Some y ↦ refl
+      | None ↦ elim s.disperse as (λ (b : Bool). fault {A = OpenSection} (if b then disperse_names s names else other_names s) ≡ (if b && repeats names then Some Twice else None)) [
+        | true ↦ elim (repeats names) as (λ (r : Bool). fault {A = OpenSection} (if r then Err Twice else Ok (record s { subvolumes = Some (subvolumes_of names) })) ≡ (if r then Some Twice else None)) [ true ↦ refl | false ↦ refl ]
+        | false ↦ refl
+      ]
+    ]
 
 type-fault : (d : Bool) (name type : List ℕ) → fault (typed d name (Some type)) ≡ (if d && bytes_eq type disperse_type then Some TwoDisperse else None)
 type-fault d name type =
-    elim (bytes_eq type disperse_type) as (λ (b : Bool). fault {A = OpenSection} (if b then (if d then Err TwoDisperse else Ok (new_section name true)) else Ok (new_section name false)) ≡ (if d && b then Some TwoDisperse else None))
-    [ true ↦ elim d as (λ (d : Bool). fault {A = OpenSection} (if d then Err TwoDisperse else Ok (new_section name true)) ≡ (if d && true then Some TwoDisperse else None)) [ true ↦ refl | false ↦ refl ]
-    | false ↦ elim d as (λ (d : Bool). None ≡ (if d && false then Some TwoDisperse else None)) [ true ↦ refl | false ↦ refl ] ]
+    elim (bytes_eq type disperse_type) as (λ (b : Bool). fault {A = OpenSection} (if b then (if d then Err TwoDisperse else Ok (new_section name true)) else Ok (new_section name false)) ≡ (if d && b then Some TwoDisperse else None)) [
+      | true ↦ elim d as (λ (d : Bool). fault {A = OpenSection} (if d then Err TwoDisperse else Ok (new_section name true)) ≡ (if d && true then Some TwoDisperse else None)) [ true ↦ refl | false ↦ refl ]
+      | false ↦ elim d as (λ (d : Bool). None ≡ (if d && false then Some TwoDisperse else None)) [ true ↦ refl | false ↦ refl ]
+    ]
 
 volume-fault : (s : OpenSection) (bricks : Subvolumes) (o : Option ℕ) → fault (volume_with s bricks o) ≡ (if is_none o then Some NoRedundancy else shape_fault (Some (bricks.count, unwrap_or o 0)))
 volume-fault s bricks None = refl
@@ -166,6 +169,7 @@ run-fault (line ∷ ls) f n m e h = by_step (step f line) refl h (λ g. run-faul
   longer : (g : Front) → step f line ≡ Ok g → FaultFrom g (n + 1) ls m e → FaultFrom f n (line ∷ ls) m e
   longer g s (inl l) = inl (record { before = line ∷ l.before; line = l.line; rest = l.rest; all = ap (λ (x : List (List ℕ)). line ∷ x) l.all; number = omega (arith, l.number); front = l.front; leads = ap (reached_after l.before) (sym (step-advance f line) ∙ s) ∙ l.leads; refused = l.refused })
   longer g s (inr l) = inr (record { number = omega (arith, l.number); front = l.front; leads = ap (reached_after ls) (sym (step-advance f line) ∙ s) ∙ l.leads; refused = l.refused })
+
   by_step : (r : Result Front VolumeFault) → step f line ≡ r → after n ls r ≡ Err (m, e) → ((g : Front) → run g (n + 1) ls ≡ Err (m, e) → FaultFrom g (n + 1) ls m e) → FaultFrom f n (line ∷ ls) m e
   by_step (Ok g) s h more = longer g s (more g h)
   by_step (Err d) s h more =
@@ -199,6 +203,7 @@ outcome-fault bytes n e h = by_size (nat_lt (2 ^ 20) (length bytes)) refl h wher
   of_lines : FaultFrom start 0 (lines bytes) n e → IsLineFault bytes n e ⊎ IsEndFault bytes n e
   of_lines (inl l) = inl (record { before = l.before; line = l.line; rest = l.rest; all = l.all; number = omega (arith, l.number); front = l.front; leads = l.leads; refused = l.refused })
   of_lines (inr l) = inr (record { number = omega (arith, l.number); front = l.front; leads = l.leads; refused = l.refused })
+
   by_size : (b : Bool) → nat_lt (2 ^ 20) (length bytes) ≡ b → ◌≡◌ {A = Result Outline (ℕ × VolumeFault)} (if b then Err (0, TooLong) else run start 0 (lines bytes)) (Err (n, e)) → IsFirstFault bytes n e
   by_size true s h = let p = err_pair 0 n TooLong e h in inl (ltb-true (2 ^ 20) (length bytes) s, sym p.0, sym p.1)
   by_size false s h = inr (ltb-false (2 ^ 20) (length bytes) s, of_lines (run-fault (lines bytes) start 0 n e h))
@@ -210,10 +215,10 @@ fault-outcome bytes n e (inl h) =
     ∙ (ap (λ (k : ℕ). Err (k, TooLong)) (sym h.1) ∙ ap (λ (d : VolumeFault). Err (n, d)) (sym h.2))
 fault-outcome bytes n e (inr h) =
     at_false (nat_lt (2 ^ 20) (length bytes)) (Err (0, TooLong)) (run start 0 (lines bytes)) (le-ltb (2 ^ 20) (length bytes) h.0) ∙ of_lines h.1 where
-  of_lines : IsLineFault bytes n e ⊎ IsEndFault bytes n e → run start 0 (lines bytes) ≡ Err (n, e)
-  of_lines (inl l) =
-      let k : 0 + (length l.before + 1) ≡ n = omega (arith, l.number) in
-      ap (run start 0) l.all ∙ (line-run l.before start 0 l.line l.rest l.front e l.leads l.refused ∙ ap (λ (k : ℕ). Err (k, e)) k)
-  of_lines (inr l) =
-      let k : 0 + length (lines bytes) ≡ n = omega (arith, l.number) in
-      end-run (lines bytes) start 0 l.front e l.leads l.refused ∙ ap (λ (k : ℕ). Err (k, e)) k
+      of_lines : IsLineFault bytes n e ⊎ IsEndFault bytes n e → run start 0 (lines bytes) ≡ Err (n, e)
+      of_lines (inl l) =
+          let k : 0 + (length l.before + 1) ≡ n = omega (arith, l.number) in
+          ap (run start 0) l.all ∙ (line-run l.before start 0 l.line l.rest l.front e l.leads l.refused ∙ ap (λ (k : ℕ). Err (k, e)) k)
+      of_lines (inr l) =
+          let k : 0 + length (lines bytes) ≡ n = omega (arith, l.number) in
+          end-run (lines bytes) start 0 l.front e l.leads l.refused ∙ ap (λ (k : ℕ). Err (k, e)) k

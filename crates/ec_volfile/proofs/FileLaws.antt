@@ -27,7 +27,9 @@ same_Ok o p h = cc
 
 same_geometry : (g h : Geometry) → g.n ≡ h.n → g.r ≡ h.r → g.algorithm ≡ h.algorithm → g ≡ h
 same_geometry g h n r a = λ i. record {
-  n = n i; r = r i; algorithm = a i;
+  n = n i;
+  r = r i;
+  algorithm = a i;
   redundant = is_prop→PathP (λ j. 0 < r j) (λ j. le_prop) g.redundant h.redundant i;
   majority = is_prop→PathP (λ j. 2 * r j < n j) (λ j. le_prop) g.majority h.majority i;
   least = is_prop→PathP (λ j. 2 + r j ≤ n j) (λ j. le_prop) g.least h.least i;
@@ -40,9 +42,14 @@ pub same_volume : (v w : Volume) → outline v ≡ outline w → v ≡ w
 same_volume v w e =
     let g = same_geometry v.geometry w.geometry (ap (λ (o : Outline). o.n) e) (ap (λ (o : Outline). o.r) e) (ap (λ (o : Outline). o.algorithm) e) in
     λ i. record {
-      name = ap (λ (o : Outline). o.name) e i; bricks = ap (λ (o : Outline). o.bricks) e i; geometry = g i;
-      policy = ap (λ (o : Outline). o.policy) e i; eager = ap (λ (o : Outline). o.eager) e i; cache = ap (λ (o : Outline). o.cache) e i;
-      window = ap (λ (o : Outline). o.window) e i; kernel = ap (λ (o : Outline). o.kernel) e i;
+      name = ap (λ (o : Outline). o.name) e i;
+      bricks = ap (λ (o : Outline). o.bricks) e i;
+      geometry = g i;
+      policy = ap (λ (o : Outline). o.policy) e i;
+      eager = ap (λ (o : Outline). o.eager) e i;
+      cache = ap (λ (o : Outline). o.cache) e i;
+      window = ap (λ (o : Outline). o.window) e i;
+      kernel = ap (λ (o : Outline). o.kernel) e i;
     }
 
 fails-ok : (n : ℕ) (f : VolumeFault) (o : Outline) → FailsAt n f (Ok o) → f ≡ NoMemory

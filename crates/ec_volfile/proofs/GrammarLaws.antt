@@ -74,7 +74,11 @@ at_front p d found = record { place = p; disperse = d; found = found }
 disperse_back : (name type line : List ℕ) (found : Option Outline) (fls : List (List ℕ)) (o : Outline) → words line ≡ codes "type" ∷ type ∷ [] → type ≡ disperse_type → Rest fls true found o (new_section name true) → HeadRest (line ∷ fls) false found o name
 disperse_back name type line found fls o w e c = record {
   section = record { name = name; type = type; items = c.items };
-  rest = c.rest; others = c.others; named = refl; follows = (w, c.closes); sections = c.sections;
+  rest = c.rest;
+  others = c.others;
+  named = refl;
+  follows = (w, c.closes);
+  sections = c.sections;
   means = by_means c.means;
 } where
   by_means : ((true ≡ true) × (p : Outline) × (volume_of c.read ≡ Ok p) × Means true (Some p) c.others o) ⊎ ((true ≡ false) × Means true found c.others o) → Means false found (record { name = name; type = type; items = c.items } ∷ c.others) o
@@ -85,7 +89,11 @@ disperse_back name type line found fls o w e c = record {
 other_back : (name type line : List ℕ) (d : Bool) (found : Option Outline) (fls : List (List ℕ)) (o : Outline) → words line ≡ codes "type" ∷ type ∷ [] → type ≢ disperse_type → Rest fls d found o (new_section name false) → HeadRest (line ∷ fls) d found o name
 other_back name type line d found fls o w n c = record {
   section = record { name = name; type = type; items = c.items };
-  rest = c.rest; others = c.others; named = refl; follows = (w, c.closes); sections = c.sections;
+  rest = c.rest;
+  others = c.others;
+  named = refl;
+  follows = (w, c.closes);
+  sections = c.sections;
   means = by_means c.means;
 } where
   by_means : ((false ≡ true) × (p : Outline) × (volume_of c.read ≡ Ok p) × Means d (Some p) c.others o) ⊎ ((false ≡ false) × Means d found c.others o) → Means d found (record { name = name; type = type; items = c.items } ∷ c.others) o
@@ -117,7 +125,12 @@ end_back line t d found g fls o w e c = by_type t.disperse refl e where
 -- an item
 item_back : (line : List ℕ) (item : Item) (t u : OpenSection) (d : Bool) (found : Option Outline) (fls : List (List ℕ)) (o : Outline) → IsItem line item → take_item t item ≡ Ok u → Rest fls d found o u → Rest (line ∷ fls) d found o t
 item_back line item t u d found fls o w e c = record {
-  items = item ∷ c.items; rest = c.rest; others = c.others; read = c.read; closes = (w, c.closes); sections = c.sections;
+  items = item ∷ c.items;
+  rest = c.rest;
+  others = c.others;
+  read = c.read;
+  closes = (w, c.closes);
+  sections = c.sections;
   taken = take_next t u item c.items e ∙ c.taken;
   disperse = c.disperse ∙ item_disperse item t u e;
   means = subst (λ (b : Bool). ((b ≡ true) × (p : Outline) × (volume_of c.read ≡ Ok p) × Means d (Some p) c.others o) ⊎ ((b ≡ false) × Means d found c.others o)) (item_disperse item t u e) c.means;
@@ -171,9 +184,9 @@ type_on name d found line fls o s rest ss n w cl a (inl m) =
       step = k.1 ∙ ap (λ (b : Bool). set_by (λ (t : OpenSection). at_front (place.Body t) (d || t.disperse) found) (if b then (if d then Err TwoDisperse else Ok (new_section name true)) else Ok (new_section name false))) (not_type (bytes_eq s.type disperse_type) refl);
       completes = record { items = s.items; rest = rest; others = ss; read = taken.0; closes = cl; sections = a; taken = taken.1; disperse = taken.2; means = inr (refl, subst (λ (b : Bool). Means b found ss o) (or_false d) m.1) };
     } where
-  not_type : (b : Bool) → bytes_eq s.type disperse_type ≡ b → b ≡ false
-  not_type true h = absurd (m.0.type ((bytes_eq-Decides s.type disperse_type).0 h))
-  not_type false h = refl
+      not_type : (b : Bool) → bytes_eq s.type disperse_type ≡ b → b ≡ false
+      not_type true h = absurd (m.0.type ((bytes_eq-Decides s.type disperse_type).0 h))
+      not_type false h = refl
 type_on name d found line fls o s rest ss n w cl a (inr m) =
     let k = step-of (at_front (place.Head name) d found) line (HasType s.type) w in
     let v = describes-volume s m.1 m.2 in
@@ -181,8 +194,8 @@ type_on name d found line fls o s rest ss n w cl a (inr m) =
       passed = k.0;
       front = at_front (place.Body (new_section name true)) true found;
       step = k.1
-        ∙ (ap (λ (b : Bool). set_by (λ (t : OpenSection). at_front (place.Body t) (d || t.disperse) found) (if b then (if d then Err TwoDisperse else Ok (new_section name true)) else Ok (new_section name false))) ((bytes_eq-Decides s.type disperse_type).1 m.2.type)
-        ∙ ap (λ (d : Bool). set_by (λ (t : OpenSection). at_front (place.Body t) (d || t.disperse) found) (if d then Err TwoDisperse else Ok (new_section name true))) m.0);
+          ∙ (ap (λ (b : Bool). set_by (λ (t : OpenSection). at_front (place.Body t) (d || t.disperse) found) (if b then (if d then Err TwoDisperse else Ok (new_section name true)) else Ok (new_section name false))) ((bytes_eq-Decides s.type disperse_type).1 m.2.type)
+          ∙ ap (λ (d : Bool). set_by (λ (t : OpenSection). at_front (place.Body t) (d || t.disperse) found) (if d then Err TwoDisperse else Ok (new_section name true))) m.0);
       completes = record { items = s.items; rest = rest; others = ss; read = v.read; closes = cl; sections = a; taken = becomes-taken s.items (new_section name true) v.read refl (subst (λ (x : List ℕ). Becomes (new_section x true) (key_values s.items) (names_in s.items) v.read) n v.becomes); disperse = v.disperse; means = inl (refl, m.1, v.volume, m.3) };
     }
 
@@ -191,14 +204,16 @@ end_on : (t : OpenSection) (d : Bool) (found : Option Outline) (line : List ℕ)
 end_on t d found line fls o rest ss w e a (inl m) =
     let k = step-of (at_front (place.Body t) d found) line Ends w in
     record {
-      passed = k.0; front = at_front place.Outside d (Some m.1);
+      passed = k.0;
+      front = at_front place.Outside d (Some m.1);
       step = k.1 ∙ (at_true t.disperse (set_by (λ v. at_front place.Outside d (Some v)) (volume_of t)) (Ok (at_front place.Outside d found)) m.0 ∙ ap (set_by (λ v. at_front place.Outside d (Some v))) m.2);
       completes = record { others = ss; sections = subst (λ (x : List (List ℕ)). AreSections x ss) (sym e) a; means = m.3 };
     }
 end_on t d found line fls o rest ss w e a (inr m) =
     let k = step-of (at_front (place.Body t) d found) line Ends w in
     record {
-      passed = k.0; front = at_front place.Outside d found;
+      passed = k.0;
+      front = at_front place.Outside d found;
       step = k.1 ∙ at_false t.disperse (set_by (λ v. at_front place.Outside d (Some v)) (volume_of t)) (Ok (at_front place.Outside d found)) m.0;
       completes = record { others = ss; sections = subst (λ (x : List (List ℕ)). AreSections x ss) (sym e) a; means = m.1 };
     }
@@ -212,10 +227,18 @@ body_on t d found line fls o (item ∷ items) c i cl e =
     let k = step-of (at_front (place.Body t) d found) line (Holds item) cl.0 in
     let same : p.0.disperse ≡ t.disperse = item_disperse item t p.0 p.1 in
     record {
-      passed = k.0; front = at_front (place.Body p.0) d found;
+      passed = k.0;
+      front = at_front (place.Body p.0) d found;
       step = k.1 ∙ ap (set_by (λ (t : OpenSection). at_front (place.Body t) d found)) p.1;
       completes = record {
-        items = items; rest = c.rest; others = c.others; read = c.read; closes = cl.1; sections = c.sections; taken = p.2; disperse = c.disperse ∙ sym same;
+        items = items;
+        rest = c.rest;
+        others = c.others;
+        read = c.read;
+        closes = cl.1;
+        sections = c.sections;
+        taken = p.2;
+        disperse = c.disperse ∙ sym same;
         means = subst (λ (b : Bool). ((b ≡ true) × (p : Outline) × (volume_of c.read ≡ Ok p) × Means d (Some p) c.others o) ⊎ ((b ≡ false) × Means d found c.others o)) (sym same) c.means;
       };
     }
@@ -267,12 +290,12 @@ run-completes [] f n o e = finish-completes f.place f.disperse f.found n o e
 run-completes (line ∷ ls) f n o e =
     let p = after-Ok n ls (step f line) o e in
     by_line p.0 p.1 (run-completes ls p.0 (n + 1) o p.2) (is_passed line) refl where
-  by_line : (g : Front) → step f line ≡ Ok g → Completes g (filled ls) o → (b : Bool) → is_passed line ≡ b → Completes f (filled (line ∷ ls)) o
-  by_line g s c true h =
-      subst (λ (x : List (List ℕ)). Completes f x o) (sym (filled-passed line ls h)) (subst (λ (x : Front). Completes x (filled ls) o) (sym (same_Ok f g (sym (step-passed f line h) ∙ s))) c)
-  by_line g s c false h =
-      let k = step-says f g line h s in
-      subst (λ (x : List (List ℕ)). Completes f x o) (sym (filled-some line ls h)) (lead_back f.place k.0 f.disperse f.found g line (filled ls) o k.1 k.2 c)
+      by_line : (g : Front) → step f line ≡ Ok g → Completes g (filled ls) o → (b : Bool) → is_passed line ≡ b → Completes f (filled (line ∷ ls)) o
+      by_line g s c true h =
+          subst (λ (x : List (List ℕ)). Completes f x o) (sym (filled-passed line ls h)) (subst (λ (x : Front). Completes x (filled ls) o) (sym (same_Ok f g (sym (step-passed f line h) ∙ s))) c)
+      by_line g s c false h =
+          let k = step-says f g line h s in
+          subst (λ (x : List (List ℕ)). Completes f x o) (sym (filled-some line ls h)) (lead_back f.place k.0 f.disperse f.found g line (filled ls) o k.1 k.2 c)
 
 completes-run : (ls : List (List ℕ)) (f : Front) (n : ℕ) (o : Outline) → Completes f (filled ls) o → run f n ls ≡ Ok o
 completes-run [] f n o c = completes-finish f.place f.disperse f.found n o c

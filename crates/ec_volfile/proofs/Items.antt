@@ -119,40 +119,47 @@ pub named-becomes : (o : Option Key) (value : List ℕ) (s t : OpenSection) (vs 
 unfolding set
 named-becomes None value s t vs nss d b = (s, refl, record { name = b.name; disperse = b.disperse; subvolumes = b.subvolumes; redundancy = b.redundancy; policy = b.policy; eager = b.eager; cache = b.cache; window = b.window; kernel = b.kernel; systematic = b.systematic })
 named-becomes (Some Redundancy) value s t vs nss d b =
-    let j = joins_first number_of value (vs Redundancy) s.options.redundancy t.options.redundancy b.redundancy in
-    (record s { options = record s.options { redundancy = Some j.0 } },
-    at_true s.disperse (with_options s (set s.options Redundancy value)) (Ok s) d ∙ ap (λ (r : Result ℕ VolumeFault). with_options s (set_by (λ (x : ℕ). record s.options { redundancy = Some x }) r)) j.1,
-    record { name = b.name; disperse = b.disperse; subvolumes = b.subvolumes; redundancy = j.2; policy = b.policy; eager = b.eager; cache = b.cache; window = b.window; kernel = b.kernel; systematic = b.systematic })
+    let j = joins_first number_of value (vs Redundancy) s.options.redundancy t.options.redundancy b.redundancy in (
+      record s { options = record s.options { redundancy = Some j.0 } },
+      at_true s.disperse (with_options s (set s.options Redundancy value)) (Ok s) d ∙ ap (λ (r : Result ℕ VolumeFault). with_options s (set_by (λ (x : ℕ). record s.options { redundancy = Some x }) r)) j.1,
+      record { name = b.name; disperse = b.disperse; subvolumes = b.subvolumes; redundancy = j.2; policy = b.policy; eager = b.eager; cache = b.cache; window = b.window; kernel = b.kernel; systematic = b.systematic },
+    )
 named-becomes (Some ReadPolicy) value s t vs nss d b =
-    let j = joins_first policy_of value (vs ReadPolicy) s.options.policy t.options.policy b.policy in
-    (record s { options = record s.options { policy = Some j.0 } },
-    at_true s.disperse (with_options s (set s.options ReadPolicy value)) (Ok s) d ∙ ap (λ (r : Result Policy VolumeFault). with_options s (set_by (λ (x : Policy). record s.options { policy = Some x }) r)) j.1,
-    record { name = b.name; disperse = b.disperse; subvolumes = b.subvolumes; redundancy = b.redundancy; policy = j.2; eager = b.eager; cache = b.cache; window = b.window; kernel = b.kernel; systematic = b.systematic })
+    let j = joins_first policy_of value (vs ReadPolicy) s.options.policy t.options.policy b.policy in (
+      record s { options = record s.options { policy = Some j.0 } },
+      at_true s.disperse (with_options s (set s.options ReadPolicy value)) (Ok s) d ∙ ap (λ (r : Result Policy VolumeFault). with_options s (set_by (λ (x : Policy). record s.options { policy = Some x }) r)) j.1,
+      record { name = b.name; disperse = b.disperse; subvolumes = b.subvolumes; redundancy = b.redundancy; policy = j.2; eager = b.eager; cache = b.cache; window = b.window; kernel = b.kernel; systematic = b.systematic },
+    )
 named-becomes (Some EagerLock) value s t vs nss d b =
-    let j = joins_first eager_of value (vs EagerLock) s.options.eager t.options.eager b.eager in
-    (record s { options = record s.options { eager = Some j.0 } },
-    at_true s.disperse (with_options s (set s.options EagerLock value)) (Ok s) d ∙ ap (λ (r : Result Bool VolumeFault). with_options s (set_by (λ (x : Bool). record s.options { eager = Some x }) r)) j.1,
-    record { name = b.name; disperse = b.disperse; subvolumes = b.subvolumes; redundancy = b.redundancy; policy = b.policy; eager = j.2; cache = b.cache; window = b.window; kernel = b.kernel; systematic = b.systematic })
+    let j = joins_first eager_of value (vs EagerLock) s.options.eager t.options.eager b.eager in (
+      record s { options = record s.options { eager = Some j.0 } },
+      at_true s.disperse (with_options s (set s.options EagerLock value)) (Ok s) d ∙ ap (λ (r : Result Bool VolumeFault). with_options s (set_by (λ (x : Bool). record s.options { eager = Some x }) r)) j.1,
+      record { name = b.name; disperse = b.disperse; subvolumes = b.subvolumes; redundancy = b.redundancy; policy = b.policy; eager = j.2; cache = b.cache; window = b.window; kernel = b.kernel; systematic = b.systematic },
+    )
 named-becomes (Some StripeCache) value s t vs nss d b =
-    let j = joins_first cache_of value (vs StripeCache) s.options.cache t.options.cache b.cache in
-    (record s { options = record s.options { cache = Some j.0 } },
-    at_true s.disperse (with_options s (set s.options StripeCache value)) (Ok s) d ∙ ap (λ (r : Result ℕ VolumeFault). with_options s (set_by (λ (x : ℕ). record s.options { cache = Some x }) r)) j.1,
-    record { name = b.name; disperse = b.disperse; subvolumes = b.subvolumes; redundancy = b.redundancy; policy = b.policy; eager = b.eager; cache = j.2; window = b.window; kernel = b.kernel; systematic = b.systematic })
+    let j = joins_first cache_of value (vs StripeCache) s.options.cache t.options.cache b.cache in (
+      record s { options = record s.options { cache = Some j.0 } },
+      at_true s.disperse (with_options s (set s.options StripeCache value)) (Ok s) d ∙ ap (λ (r : Result ℕ VolumeFault). with_options s (set_by (λ (x : ℕ). record s.options { cache = Some x }) r)) j.1,
+      record { name = b.name; disperse = b.disperse; subvolumes = b.subvolumes; redundancy = b.redundancy; policy = b.policy; eager = b.eager; cache = j.2; window = b.window; kernel = b.kernel; systematic = b.systematic },
+    )
 named-becomes (Some HealWindow) value s t vs nss d b =
-    let j = joins_first window_of value (vs HealWindow) s.options.window t.options.window b.window in
-    (record s { options = record s.options { window = Some j.0 } },
-    at_true s.disperse (with_options s (set s.options HealWindow value)) (Ok s) d ∙ ap (λ (r : Result ℕ VolumeFault). with_options s (set_by (λ (x : ℕ). record s.options { window = Some x }) r)) j.1,
-    record { name = b.name; disperse = b.disperse; subvolumes = b.subvolumes; redundancy = b.redundancy; policy = b.policy; eager = b.eager; cache = b.cache; window = j.2; kernel = b.kernel; systematic = b.systematic })
+    let j = joins_first window_of value (vs HealWindow) s.options.window t.options.window b.window in (
+      record s { options = record s.options { window = Some j.0 } },
+      at_true s.disperse (with_options s (set s.options HealWindow value)) (Ok s) d ∙ ap (λ (r : Result ℕ VolumeFault). with_options s (set_by (λ (x : ℕ). record s.options { window = Some x }) r)) j.1,
+      record { name = b.name; disperse = b.disperse; subvolumes = b.subvolumes; redundancy = b.redundancy; policy = b.policy; eager = b.eager; cache = b.cache; window = j.2; kernel = b.kernel; systematic = b.systematic },
+    )
 named-becomes (Some CpuExtensions) value s t vs nss d b =
-    let j = joins_first kernel_some value (vs CpuExtensions) s.options.kernel t.options.kernel b.kernel in
-    (record s { options = record s.options { kernel = Some j.0 } },
-    at_true s.disperse (with_options s (set s.options CpuExtensions value)) (Ok s) d ∙ ap (λ (r : Result Kernel VolumeFault). with_options s (set_by (λ (x : Kernel). record s.options { kernel = Some x }) r)) j.1,
-    record { name = b.name; disperse = b.disperse; subvolumes = b.subvolumes; redundancy = b.redundancy; policy = b.policy; eager = b.eager; cache = b.cache; window = b.window; kernel = j.2; systematic = b.systematic })
+    let j = joins_first kernel_some value (vs CpuExtensions) s.options.kernel t.options.kernel b.kernel in (
+      record s { options = record s.options { kernel = Some j.0 } },
+      at_true s.disperse (with_options s (set s.options CpuExtensions value)) (Ok s) d ∙ ap (λ (r : Result Kernel VolumeFault). with_options s (set_by (λ (x : Kernel). record s.options { kernel = Some x }) r)) j.1,
+      record { name = b.name; disperse = b.disperse; subvolumes = b.subvolumes; redundancy = b.redundancy; policy = b.policy; eager = b.eager; cache = b.cache; window = b.window; kernel = j.2; systematic = b.systematic },
+    )
 named-becomes (Some CodeRows) value s t vs nss d b =
-    let j = joins_first systematic_of value (vs CodeRows) s.options.systematic t.options.systematic b.systematic in
-    (record s { options = record s.options { systematic = Some j.0 } },
-    at_true s.disperse (with_options s (set s.options CodeRows value)) (Ok s) d ∙ ap (λ (r : Result Bool VolumeFault). with_options s (set_by (λ (x : Bool). record s.options { systematic = Some x }) r)) j.1,
-    record { name = b.name; disperse = b.disperse; subvolumes = b.subvolumes; redundancy = b.redundancy; policy = b.policy; eager = b.eager; cache = b.cache; window = b.window; kernel = b.kernel; systematic = j.2 })
+    let j = joins_first systematic_of value (vs CodeRows) s.options.systematic t.options.systematic b.systematic in (
+      record s { options = record s.options { systematic = Some j.0 } },
+      at_true s.disperse (with_options s (set s.options CodeRows value)) (Ok s) d ∙ ap (λ (r : Result Bool VolumeFault). with_options s (set_by (λ (x : Bool). record s.options { systematic = Some x }) r)) j.1,
+      record { name = b.name; disperse = b.disperse; subvolumes = b.subvolumes; redundancy = b.redundancy; policy = b.policy; eager = b.eager; cache = b.cache; window = b.window; kernel = b.kernel; systematic = j.2 },
+    )
 
 -- the names of the subvolumes, and what they lead to
 names-chosen : (t : Bool) (s u : OpenSection) (names : List (List ℕ)) → (if t then Err Twice else Ok (record s { subvolumes = Some (subvolumes_of names) })) ≡ Ok u → (t ≡ false) × (record s { subvolumes = Some (subvolumes_of names) } ≡ u)
@@ -171,10 +178,11 @@ becomes-names names s u t vs nss d e b = becomes-by names s u t vs nss s.subvolu
 
 names-by : (names : List (List ℕ)) (s t : OpenSection) (vs : Key → List (List ℕ)) (nss : List (List (List ℕ))) (o : Option Subvolumes) → s.subvolumes ≡ o → s.disperse ≡ true → JoinsNames (names ∷ nss) o t.subvolumes → Becomes s vs (names ∷ nss) t → (u : OpenSection) × (with_names s names o ≡ Ok u) × Becomes u vs nss t
 names-by names s t vs nss (Some y) h d j b = absurd j
-names-by names s t vs nss None h d j b =
-    (record s { subvolumes = Some (subvolumes_of names) },
-    at_true s.disperse (disperse_names s names) (other_names s) d ∙ ap (λ (t : Bool). if t then Err Twice else Ok (record s { subvolumes = Some (subvolumes_of names) })) j.0,
-    record { subvolumes = j.1; name = b.name; disperse = b.disperse; redundancy = b.redundancy; policy = b.policy; eager = b.eager; cache = b.cache; window = b.window; kernel = b.kernel; systematic = b.systematic })
+names-by names s t vs nss None h d j b = (
+  record s { subvolumes = Some (subvolumes_of names) },
+  at_true s.disperse (disperse_names s names) (other_names s) d ∙ ap (λ (t : Bool). if t then Err Twice else Ok (record s { subvolumes = Some (subvolumes_of names) })) j.0,
+  record { subvolumes = j.1; name = b.name; disperse = b.disperse; redundancy = b.redundancy; policy = b.policy; eager = b.eager; cache = b.cache; window = b.window; kernel = b.kernel; systematic = b.systematic },
+)
 
 pub names-becomes : (names : List (List ℕ)) (s t : OpenSection) (vs : Key → List (List ℕ)) (nss : List (List (List ℕ))) → s.disperse ≡ true → Becomes s vs (names ∷ nss) t → (u : OpenSection) × (with_names s names s.subvolumes ≡ Ok u) × Becomes u vs nss t
 names-becomes names s t vs nss d b = names-by names s t vs nss s.subvolumes refl d b.subvolumes b

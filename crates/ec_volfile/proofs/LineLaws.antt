@@ -26,7 +26,8 @@ first_of line (b ∷ bs) e =
     let begins : skip_blanks (b ∷ bs) ≡ b ∷ bs = ap skip_blanks (sym e) ∙ (skip_twice line ∙ e) in
     let word : word_of (b ∷ bs) ≡ b ∷ word_of bs = at_false (is_blank b) [] (b ∷ word_of bs) (solid b bs begins) in
     inr (record {
-      b = b; bs = word_of bs;
+      b = b;
+      bs = word_of bs;
       first = ap word_of e ∙ word;
       all = sym (words_skip line) ∙ (ap words e ∙ (next_words (b ∷ bs) begins (omega arith) ∙ (ap (λ (w : List ℕ). w ∷ words (skip_blanks (after_word (b ∷ bs)))) word ∙ ap (λ (t : List ℕ). (b ∷ word_of bs) ∷ words (skip_blanks (after_word t))) (sym e))));
     })
@@ -184,6 +185,7 @@ known_word : (line : List ℕ) (c : ℕ) (cs : List ℕ) (ws : List (List ℕ)) 
 known_word line c cs ws e = by_word (first_or_none line) where
   same_args : (w : HasWord line) → (w.b ∷ w.bs) ∷ words (arguments line) ≡ (c ∷ cs) ∷ ws → (w.b ∷ w.bs ≡ c ∷ cs) × (words (arguments line) ≡ ws)
   same_args w h = (cc, cc)
+
   by_word : ((words line ≡ []) × (first_word line ≡ [])) ⊎ HasWord line → KnownWord line (c ∷ cs) ws
   by_word (inl n) = let none : [] ≡ (c ∷ cs) ∷ ws = sym n.0 ∙ e in cc
   by_word (inr w) = let s = same_args w (sym w.all ∙ e) in record { first = w.first ∙ s.0; args = s.1 }
@@ -218,15 +220,19 @@ says-stated line (HasType type) e =
 says-stated line (Holds (Sets key value)) e =
     let w = known_word line 111 _ (key ∷ e.0) e.1 in
     let l : 0 < length (trimmed (after_word (arguments line))) = omega (arith, e.3, ap length e.2) in
-    let k = key_first (arguments line) key e.0 (arguments-begin line) (value_some (arguments line) l) w.args in
-    (ap is_remark e.1, stated_by line (codes "option") keyword.Option (Some (Holds (Sets key value))) w.first refl
-    (item_stated (nat_eq (length (trimmed (after_word (arguments line)))) 0) (Sets (word_of (arguments line)) (trimmed (after_word (arguments line)))) (test_some (trimmed (after_word (arguments line))) l)
-    ∙ (ap (λ (x : List ℕ). Some (Holds (Sets x (trimmed (after_word (arguments line)))))) k ∙ ap (λ (x : List ℕ). Some (Holds (Sets key x))) e.2)))
+    let k = key_first (arguments line) key e.0 (arguments-begin line) (value_some (arguments line) l) w.args in (
+      ap is_remark e.1,
+      stated_by line (codes "option") keyword.Option (Some (Holds (Sets key value))) w.first refl
+          (item_stated (nat_eq (length (trimmed (after_word (arguments line)))) 0) (Sets (word_of (arguments line)) (trimmed (after_word (arguments line)))) (test_some (trimmed (after_word (arguments line))) l)
+          ∙ (ap (λ (x : List ℕ). Some (Holds (Sets x (trimmed (after_word (arguments line)))))) k ∙ ap (λ (x : List ℕ). Some (Holds (Sets key x))) e.2)),
+    )
 says-stated line (Holds (Names names)) e =
     let w = known_word line 115 _ names e.0 in
-    let l : 0 < length (arguments line) = some_arguments (arguments line) (omega (arith, e.1, ap length w.args)) in
-    (ap is_remark e.0, stated_by line (codes "subvolumes") keyword.Subvolumes (Some (Holds (Names names))) w.first refl
-    (item_stated (nat_eq (length (arguments line)) 0) (Names (words (arguments line))) (test_some (arguments line) l) ∙ ap (λ (ws : List (List ℕ)). Some (Holds (Names ws))) w.args))
+    let l : 0 < length (arguments line) = some_arguments (arguments line) (omega (arith, e.1, ap length w.args)) in (
+      ap is_remark e.0,
+      stated_by line (codes "subvolumes") keyword.Subvolumes (Some (Holds (Names names))) w.first refl
+          (item_stated (nat_eq (length (arguments line)) 0) (Names (words (arguments line))) (test_some (arguments line) l) ∙ ap (λ (ws : List (List ℕ)). Some (Holds (Names ws))) w.args),
+    )
 says-stated line Ends e =
     let w = known_word line 101 _ [] e in
     (ap is_remark e, stated_by line (codes "end-volume") keyword.EndVolume (Some Ends) w.first refl (ap (λ (t : Bool). if t then Some Ends else None) (no_arguments (arguments line) (arguments-begin line) w.args)))

@@ -176,15 +176,26 @@ describes-volume s p d =
     let bricks : (subvolumes_or names.0).names ≡ p.bricks = ap (λ (x : Subvolumes). x.names) names.2 ∙ take_all 31 p.bricks (omega (arith, d.geometry.bricks, d.count)) in
     let g : is_geometry (subvolumes_or names.0).count p.r ≡ true = ap (λ n. is_geometry n p.r) count ∙ is_geometry-yes p.n p.r (record { redundant = d.geometry.redundant; majority = d.geometry.majority; least = d.geometry.least; most = d.geometry.most; bricks = d.geometry.bricks; known = omega arith }) in
     let t : OpenSection = record {
-      name = s.name; disperse = true; subvolumes = names.0;
+      name = s.name;
+      disperse = true;
+      subvolumes = names.0;
       options = record { redundancy = Some p.r; policy = policy.0; eager = eager.0; cache = cache.0; window = window.0; kernel = kernel.0; systematic = systematic.0 };
     } in
     let same : outline_of t (subvolumes_or names.0) p.r ≡ p = λ i. record {
-      name = sym d.name i; bricks = bricks i; n = count i; r = p.r; algorithm = (ap algorithm systematic.2 ∙ rows.2) i;
-      policy = policy.2 i; eager = eager.2 i; cache = cache.2 i; window = window.2 i; kernel = kernel.2 i;
+      name = sym d.name i;
+      bricks = bricks i;
+      n = count i;
+      r = p.r;
+      algorithm = (ap algorithm systematic.2 ∙ rows.2) i;
+      policy = policy.2 i;
+      eager = eager.2 i;
+      cache = cache.2 i;
+      window = window.2 i;
+      kernel = kernel.2 i;
     } in
     record {
-      read = t; disperse = refl;
+      read = t;
+      disperse = refl;
       becomes = record { name = refl; disperse = refl; subvolumes = names.1; redundancy = redundancy; policy = policy.1; eager = eager.1; cache = cache.1; window = window.1; kernel = kernel.1; systematic = systematic.1 };
       volume = ap (λ (b : Bool). if b then Ok (outline_of t (subvolumes_or names.0) p.r) else Err (BadGeometry (subvolumes_or names.0).count p.r)) g ∙ ap Ok same;
     }

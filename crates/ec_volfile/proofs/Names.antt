@@ -104,8 +104,8 @@ is_among-insert (x ∷ ks) k q = first (slice_cmp nat_cmp k.now x.now) (is_eq-sl
   first : (o : Ordering) → is_eq o ≡ bytes_eq k.now x.now → is_among (insert_key (λ x y. slice_cmp nat_cmp x.now y.now) ks k) q ≡ (bytes_eq q k.now || is_among ks q) → is_among (match_ordering o (k ∷ x ∷ ks) (x ∷ ks) (x ∷ insert_key (λ x y. slice_cmp nat_cmp x.now y.now) ks k)) q ≡ (bytes_eq q k.now || is_among (x ∷ ks) q)
   first Less h more = refl
   first Equal h more =
-    let same : bytes_eq q k.now ≡ bytes_eq q x.now = ap (bytes_eq q) ((bytes_eq-Decides k.now x.now).0 (sym h)) in
-    or_twice (bytes_eq q k.now) (bytes_eq q x.now) (is_among ks q) same
+      let same : bytes_eq q k.now ≡ bytes_eq q x.now = ap (bytes_eq q) ((bytes_eq-Decides k.now x.now).0 (sym h)) in
+      or_twice (bytes_eq q k.now) (bytes_eq q x.now) (is_among ks q) same
   first Greater h more = ap (λ (t : Bool). bytes_eq q x.now || t) more ∙ or_swap (bytes_eq q x.now) (bytes_eq q k.now) (is_among ks q)
 
 pub HasSeen-none : (keys : List (Bor (List ℕ))) → keys ≡ [] → HasSeen keys []

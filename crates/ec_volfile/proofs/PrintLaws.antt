@@ -56,16 +56,18 @@ clean-newline (b ∷ bs) h = (h.0.1, clean-newline bs h.1)
 word-before : (w rest : List ℕ) → IsClean w → (word_of (w ++ 32 ∷ rest) ≡ w) × (after_word (w ++ 32 ∷ rest) ≡ 32 ∷ rest)
 word-before [] rest h = (refl, refl)
 word-before (b ∷ bs) rest h =
-    let more = word-before bs rest h.1 in
-    (at_false (is_blank b) [] (b ∷ word_of (bs ++ 32 ∷ rest)) h.0.0 ∙ ap (λ (x : List ℕ). b ∷ x) more.0,
-    at_false (is_blank b) (b ∷ (bs ++ 32 ∷ rest)) (after_word (bs ++ 32 ∷ rest)) h.0.0 ∙ more.1)
+    let more = word-before bs rest h.1 in (
+      at_false (is_blank b) [] (b ∷ word_of (bs ++ 32 ∷ rest)) h.0.0 ∙ ap (λ (x : List ℕ). b ∷ x) more.0,
+      at_false (is_blank b) (b ∷ (bs ++ 32 ∷ rest)) (after_word (bs ++ 32 ∷ rest)) h.0.0 ∙ more.1,
+    )
 
 word-whole : (w : List ℕ) → IsClean w → (word_of w ≡ w) × (after_word w ≡ [])
 word-whole [] h = (refl, refl)
 word-whole (b ∷ bs) h =
-    let more = word-whole bs h.1 in
-    (at_false (is_blank b) [] (b ∷ word_of bs) h.0.0 ∙ ap (λ (x : List ℕ). b ∷ x) more.0,
-    at_false (is_blank b) (b ∷ bs) (after_word bs) h.0.0 ∙ more.1)
+    let more = word-whole bs h.1 in (
+      at_false (is_blank b) [] (b ∷ word_of bs) h.0.0 ∙ ap (λ (x : List ℕ). b ∷ x) more.0,
+      at_false (is_blank b) (b ∷ bs) (after_word bs) h.0.0 ∙ more.1,
+    )
 
 words-one : (w : List ℕ) → IsWord w → words w ≡ w ∷ []
 words-one [] h = absurd (omega (arith, h.some))
@@ -191,7 +193,11 @@ section_of o = record { name = o.name; type = disperse_type; items = items_of o 
 
 means : (o : Outline) → IsVolume o → Describes (section_of o) o
 means o v = record {
-  type = refl; name = refl; bricks = refl; different = v.different; count = v.count;
+  type = refl;
+  name = refl;
+  bricks = refl;
+  different = v.different;
+  count = v.count;
   redundancy = number_of-decimal o.r (omega (arith, v.geometry.majority, v.geometry.bricks));
   algorithm = rows-again o.algorithm v.geometry.known;
   geometry = v.geometry;
@@ -228,32 +234,75 @@ values-of o v = (decimal-value o.r (omega (arith, v.geometry.majority, v.geometr
 is-section : (o : Outline) → IsVolume o → HasWords o → NamesLine o.bricks → AreSections (printed o) (section_of o ∷ [])
 is-section o v w n =
     let d = values-of o v in
-    let some : 0 < length o.bricks = omega (arith, v.count, v.geometry.majority) in
-    ([], (ap (λ (ws : List (List ℕ)). codes "volume" ∷ ws) (words-one o.name w.name), (refl,
-    ((words (decimal o.r), refl, trimmed-clean (decimal o.r) d.0.clean, d.0.some),
-    ((words (policy_text o.policy), refl, trimmed-clean (policy_text o.policy) (policy-value o.policy).clean, (policy-value o.policy).some),
-    ((words (eager_text o.eager), refl, trimmed-clean (eager_text o.eager) (eager-value o.eager).clean, (eager-value o.eager).some),
-    ((words (decimal o.cache), refl, trimmed-clean (decimal o.cache) d.1.clean, d.1.some),
-    ((words (decimal o.window), refl, trimmed-clean (decimal o.window) d.2.clean, d.2.some),
-    ((words (kernel_text o.kernel), refl, trimmed-clean (kernel_text o.kernel) (kernel-value o.kernel).clean, (kernel-value o.kernel).some),
-    ((words (rows_text o.algorithm), refl, trimmed-clean (rows_text o.algorithm) (rows-value o.algorithm).clean, (rows-value o.algorithm).some),
-    ((n.is, some),
-    (refl, refl))))))))))), refl)
+    let some : 0 < length o.bricks = omega (arith, v.count, v.geometry.majority) in (
+      [],
+      (
+        ap (λ (ws : List (List ℕ)). codes "volume" ∷ ws) (words-one o.name w.name),
+        (
+          refl,
+          (
+            (words (decimal o.r), refl, trimmed-clean (decimal o.r) d.0.clean, d.0.some),
+            (
+              (words (policy_text o.policy), refl, trimmed-clean (policy_text o.policy) (policy-value o.policy).clean, (policy-value o.policy).some),
+              (
+                (words (eager_text o.eager), refl, trimmed-clean (eager_text o.eager) (eager-value o.eager).clean, (eager-value o.eager).some),
+                (
+                  (words (decimal o.cache), refl, trimmed-clean (decimal o.cache) d.1.clean, d.1.some),
+                  (
+                    (words (decimal o.window), refl, trimmed-clean (decimal o.window) d.2.clean, d.2.some),
+                    (
+                      (words (kernel_text o.kernel), refl, trimmed-clean (kernel_text o.kernel) (kernel-value o.kernel).clean, (kernel-value o.kernel).some),
+                      (
+                        (words (rows_text o.algorithm), refl, trimmed-clean (rows_text o.algorithm) (rows-value o.algorithm).clean, (rows-value o.algorithm).some),
+                        (
+                          (n.is, some),
+                          (refl, refl),
+                        ),
+                      ),
+                    ),
+                  ),
+                ),
+              ),
+            ),
+          ),
+        ),
+      ),
+      refl,
+    )
 
 no-newlines : (o : Outline) → IsVolume o → HasWords o → AllByRecursion NoNewline (printed o)
 no-newlines o v w =
-    let d = values-of o v in
-    (newline-append (codes "volume ") o.name (tested (codes "volume ") refl) (clean-newline o.name w.name.bytes),
-    (tested (codes "    type cluster/disperse") refl,
-    (option-newline (codes "redundancy") (decimal o.r) (tested (codes "redundancy") refl) d.0,
-    (option-newline (codes "read-policy") (policy_text o.policy) (tested (codes "read-policy") refl) (policy-value o.policy),
-    (option-newline (codes "eager-lock") (eager_text o.eager) (tested (codes "eager-lock") refl) (eager-value o.eager),
-    (option-newline (codes "stripe-cache") (decimal o.cache) (tested (codes "stripe-cache") refl) d.1,
-    (option-newline (codes "self-heal-window-size") (decimal o.window) (tested (codes "self-heal-window-size") refl) d.2,
-    (option-newline (codes "cpu-extensions") (kernel_text o.kernel) (tested (codes "cpu-extensions") refl) (kernel-value o.kernel),
-    (option-newline (codes "code-rows") (rows_text o.algorithm) (tested (codes "code-rows") refl) (rows-value o.algorithm),
-    (newline-append (codes "    subvolumes") (spaced o.bricks) (tested (codes "    subvolumes") refl) (newline-spaced o.bricks w.bricks),
-    (tested (codes "end-volume") refl, tt)))))))))))
+    let d = values-of o v in (
+      newline-append (codes "volume ") o.name (tested (codes "volume ") refl) (clean-newline o.name w.name.bytes),
+      (
+        tested (codes "    type cluster/disperse") refl,
+        (
+          option-newline (codes "redundancy") (decimal o.r) (tested (codes "redundancy") refl) d.0,
+          (
+            option-newline (codes "read-policy") (policy_text o.policy) (tested (codes "read-policy") refl) (policy-value o.policy),
+            (
+              option-newline (codes "eager-lock") (eager_text o.eager) (tested (codes "eager-lock") refl) (eager-value o.eager),
+              (
+                option-newline (codes "stripe-cache") (decimal o.cache) (tested (codes "stripe-cache") refl) d.1,
+                (
+                  option-newline (codes "self-heal-window-size") (decimal o.window) (tested (codes "self-heal-window-size") refl) d.2,
+                  (
+                    option-newline (codes "cpu-extensions") (kernel_text o.kernel) (tested (codes "cpu-extensions") refl) (kernel-value o.kernel),
+                    (
+                      option-newline (codes "code-rows") (rows_text o.algorithm) (tested (codes "code-rows") refl) (rows-value o.algorithm),
+                      (
+                        newline-append (codes "    subvolumes") (spaced o.bricks) (tested (codes "    subvolumes") refl) (newline-spaced o.bricks w.bricks),
+                        (tested (codes "end-volume") refl, tt),
+                      ),
+                    ),
+                  ),
+                ),
+              ),
+            ),
+          ),
+        ),
+      ),
+    )
 
 -- the text of a volume means the volume
 pub text-means : (o : Outline) (t : List ℕ) → t ≡ text_of o → IsVolume o → HasWords o → length t ≤ 2 ^ 20 → IsVolumeFile t o
@@ -262,7 +311,12 @@ text-means o t e v w l =
     let n = names-line o.bricks w.bricks (omega (arith, v.count, v.geometry.majority)) in
     let ls : filled (lines t) ≡ printed o = ap filled (ap lines e ∙ lines-all (printed o) (no-newlines o v w)) ∙ filled-printed o n in
     record {
-      size = l; before = []; disperse = section_of o; after = [];
+      size = l;
+      before = [];
+      disperse = section_of o;
+      after = [];
       sections = subst (λ (x : List (List ℕ)). AreSections x (section_of o ∷ [])) (sym ls) (is-section o v w n);
-      others_before = tt; describes = means o v; others_after = tt;
+      others_before = tt;
+      describes = means o v;
+      others_after = tt;
     }

@@ -37,8 +37,16 @@ pub record Outline : Type 0 where
 -- what a volume says
 abbrev pub outline : Volume → Outline
 outline v = record {
-  name = v.name; bricks = v.bricks; n = v.geometry.n; r = v.geometry.r; algorithm = v.geometry.algorithm;
-  policy = v.policy; eager = v.eager; cache = v.cache; window = v.window; kernel = v.kernel;
+  name = v.name;
+  bricks = v.bricks;
+  n = v.geometry.n;
+  r = v.geometry.r;
+  algorithm = v.geometry.algorithm;
+  policy = v.policy;
+  eager = v.eager;
+  cache = v.cache;
+  window = v.window;
+  kernel = v.kernel;
 }
 
 -- what stands after the first lines: where in a section the next line stands, whether a section has the type
@@ -93,7 +101,9 @@ outside _ args = Err BadLine
 -- after `volume NAME`: `type T`
 abbrev pub new_section : List ℕ → Bool → OpenSection
 new_section name disperse = record {
-  name = name; disperse = disperse; subvolumes = None;
+  name = name;
+  disperse = disperse;
+  subvolumes = None;
   options = record { redundancy = None; policy = None; eager = None; cache = None; window = None; kernel = None; systematic = None };
 }
 
@@ -158,7 +168,10 @@ subvolumes_or (Some s) = s
 -- what the disperse section says
 abbrev pub outline_of : OpenSection → Subvolumes → ℕ → Outline
 outline_of s bricks r = record {
-  name = s.name; bricks = bricks.names; n = bricks.count; r = r;
+  name = s.name;
+  bricks = bricks.names;
+  n = bricks.count;
+  r = r;
   algorithm = if unwrap_or s.options.systematic false then 1 else 0;
   policy = unwrap_or s.options.policy RoundRobin;
   eager = unwrap_or s.options.eager false;

@@ -1,6 +1,5 @@
 // The options of a disperse section.
 ghost use Rattle.std.specs.Prelude.{◌≡◌, Some, None};
-
 ghost use Rattle.ec_volfile.specs.Options.{key_of, policy_of, says_on, says_off, eager_of, cache_of, window_of, kernel_of, systematic_of, once};
 
 use crate::fault::VolumeFault;

@@ -33,11 +33,12 @@ fn with_option(alloc: Global, line: &[u8]) -> Result<Volume, Fail> {
     Ok(read(alloc, text.as_slice()).ok().ok_or("refused")?)
 }
 
-/// Whether a disperse section of these subvolumes with this redundancy is refused at its end.
+/// Whether a disperse section of this redundancy and these subvolumes, line 4, is refused so.
 fn shape_is(
     alloc: Global,
     redundancy: &[u8],
     names: &[u8],
+    line: u64,
     fault: VolumeFault,
 ) -> Result<bool, Fail> {
     let mut text = Vec::new(alloc);
@@ -46,51 +47,47 @@ fn shape_is(
     text.extend_from_slice(b"\nsubvolumes ")?;
     text.extend_from_slice(names)?;
     text.extend_from_slice(b"\nend-volume\n")?;
-    Ok(is_refused(alloc, text.as_slice(), 5, fault))
+    Ok(is_refused(alloc, text.as_slice(), line, fault))
 }
 
-/// The six clients and the volume of an example, with a line end of one's own.
-fn example(alloc: Global, end: &[u8], redundancy: &[u8], count: u8) -> Result<Vec<u8>, Fail> {
+/// Adds a line of a text, a digit behind it, and a line end.
+fn put(text: &mut Vec<u8>, line: &[u8], digit: &[u8], end: &[u8]) -> Result<(), Fail> {
+    text.extend_from_slice(line)?;
+    text.extend_from_slice(digit)?;
+    text.extend_from_slice(end)?;
+    Ok(())
+}
+
+/// An example: some clients and the volume over them, with a line end of one's own.
+fn example(alloc: Global, end: &[u8], count: u8) -> Result<Vec<u8>, Fail> {
     let mut text = Vec::new(alloc);
+    let mut names = Vec::new(alloc);
     for i in 0..count.min(9) {
         let digit = [b'0' + i];
-        text.extend_from_slice(b"volume vol-client-")?;
-        text.extend_from_slice(&digit)?;
-        text.extend_from_slice(end)?;
-        text.extend_from_slice(b"    type protocol/client")?;
-        text.extend_from_slice(end)?;
-        text.extend_from_slice(b"    option remote-host server")?;
-        text.extend_from_slice(&digit)?;
-        text.extend_from_slice(end)?;
-        text.extend_from_slice(b"    option remote-subvolume /bricks/b")?;
-        text.extend_from_slice(&digit)?;
-        text.extend_from_slice(end)?;
-        text.extend_from_slice(b"end-volume")?;
-        text.extend_from_slice(end)?;
-        text.extend_from_slice(end)?;
+        put(&mut text, b"volume vol-client-", &digit, end)?;
+        put(&mut text, b"    type protocol/client", b"", end)?;
+        put(&mut text, b"    option remote-host server", &digit, end)?;
+        put(
+            &mut text,
+            b"    option remote-subvolume /bricks/b",
+            &digit,
+            end,
+        )?;
+        put(&mut text, b"end-volume", b"", end)?;
+        put(&mut text, b"", b"", end)?;
+        put(&mut names, b" vol-client-", &digit, b"")?;
     }
-    text.extend_from_slice(b"volume vol-disperse-0")?;
-    text.extend_from_slice(end)?;
-    text.extend_from_slice(b"    type cluster/disperse")?;
-    text.extend_from_slice(end)?;
-    text.extend_from_slice(b"    option redundancy ")?;
-    text.extend_from_slice(redundancy)?;
-    text.extend_from_slice(end)?;
-    text.extend_from_slice(b"    subvolumes")?;
-    for i in 0..count.min(9) {
-        let digit = [b'0' + i];
-        text.extend_from_slice(b" vol-client-")?;
-        text.extend_from_slice(&digit)?;
-    }
-    text.extend_from_slice(end)?;
-    text.extend_from_slice(b"end-volume")?;
-    text.extend_from_slice(end)?;
+    put(&mut text, b"volume vol-disperse-0", b"", end)?;
+    put(&mut text, b"    type cluster/disperse", b"", end)?;
+    put(&mut text, b"    option redundancy 2", b"", end)?;
+    put(&mut text, b"    subvolumes", names.as_slice(), end)?;
+    put(&mut text, b"end-volume", b"", end)?;
     Ok(text)
 }
 
 #[test]
 fn reads_the_example(rt: HostRuntime) -> Result<(), Fail> {
-    let text = example(rt.alloc(), b"\n", b"2", 6)?;
+    let text = example(rt.alloc(), b"\n", 6)?;
     let volume = read(rt.alloc(), text.as_slice()).ok().ok_or("refused")?;
     assert_eq!(rt; volume.name.items(), b"vol-disperse-0".as_slice());
     assert_eq!(rt; volume.bricks.len(), 6);
@@ -112,11 +109,11 @@ fn reads_the_example(rt: HostRuntime) -> Result<(), Fail> {
 #[test]
 fn refuses_the_example_changed(rt: HostRuntime) -> Result<(), Fail> {
     // A carriage return is a byte of its word, so `end-volume` isn't there.
-    let text = example(rt.alloc(), b"\r\n", b"2", 6)?;
+    let text = example(rt.alloc(), b"\r\n", 6)?;
     assert!(rt; is_refused(rt.alloc(), text.as_slice(), 5, VolumeFault::BadLine));
 
     // Four subvolumes with redundancy 2, and no last `end-volume`.
-    let text = example(rt.alloc(), b"\n", b"2", 4)?;
+    let text = example(rt.alloc(), b"\n", 4)?;
     assert!(rt;
         is_refused(
             rt.alloc(),
@@ -125,162 +122,169 @@ fn refuses_the_example_changed(rt: HostRuntime) -> Result<(), Fail> {
             VolumeFault::BadGeometry { n: 4, r: 2 }
         )
     );
-    let mut text = example(rt.alloc(), b"\n", b"2", 6)?;
+    let mut text = example(rt.alloc(), b"\n", 6)?;
     text.truncate(text.len().saturating_sub(11));
     assert!(rt; is_refused(rt.alloc(), text.as_slice(), 40, VolumeFault::NoEnd));
     Ok(())
 }
 
 #[test]
-fn refuses_bad_lines(rt: HostRuntime) -> Result<(), Fail> {
-    let alloc = rt.alloc();
-    assert!(rt; is_refused(alloc, b"volume", 1, VolumeFault::BadLine));
-    assert!(rt; is_refused(alloc, b"\n# x\n\nvolume a b\n", 4, VolumeFault::BadLine));
-    assert!(rt; is_refused(alloc, b"type x\n", 1, VolumeFault::BadLine));
-    assert!(rt; is_refused(alloc, b"volume a\noption b c\n", 2, VolumeFault::BadLine));
-    assert!(rt; is_refused(alloc, b"volume a\ntype b c\n", 2, VolumeFault::BadLine));
-    assert!(rt;
-        is_refused(
-            alloc,
-            b"volume a\ntype b\noption c\n",
+fn refuses_files(rt: HostRuntime) -> Result<(), Fail> {
+    let table: [(&[u8], u64, VolumeFault); 22] = [
+        (b"volume", 1, VolumeFault::BadLine),
+        (b"\n# x\n\nvolume a b\n", 4, VolumeFault::BadLine),
+        (b"type x\n", 1, VolumeFault::BadLine),
+        (b"volume a\noption b c\n", 2, VolumeFault::BadLine),
+        (b"volume a\ntype b c\n", 2, VolumeFault::BadLine),
+        (b"volume a\ntype b\noption c\n", 3, VolumeFault::BadLine),
+        (b"volume a\ntype b\nsubvolumes\n", 3, VolumeFault::BadLine),
+        (b"volume a\ntype b\nend-volume c", 3, VolumeFault::BadLine),
+        (
+            b"volume a\ntype b\nsubvolumes c c\nsubvolumes d\n",
+            4,
+            VolumeFault::Twice,
+        ),
+        (
+            b"volume v\ntype cluster/disperse\nsubvolumes a b c\nsubvolumes d\n",
+            4,
+            VolumeFault::Twice,
+        ),
+        (
+            b"volume v\ntype cluster/disperse\noption redundancy 4294967296\n",
             3,
-            VolumeFault::BadLine
-        )
-    );
-    assert!(rt;
-        is_refused(
-            alloc,
-            b"volume a\ntype b\nsubvolumes\n",
+            VolumeFault::BadValue,
+        ),
+        (
+            b"volume v\ntype cluster/disperse\noption redundancy 00000000001\n",
             3,
-            VolumeFault::BadLine
-        )
-    );
-    assert!(rt;
-        is_refused(
-            alloc,
-            b"volume a\ntype b\nend-volume c",
+            VolumeFault::BadValue,
+        ),
+        (
+            b"volume v\ntype cluster/disperse\noption redundancy +1\n",
             3,
-            VolumeFault::BadLine
-        )
-    );
-    assert!(rt; line_is(alloc, b"volume x", VolumeFault::BadLine)?);
-    assert!(rt; line_is(alloc, b"type x", VolumeFault::BadLine)?);
-    assert!(rt; line_is(alloc, b"options x y", VolumeFault::BadLine)?);
-    assert!(rt; line_is(alloc, b"option redundancy \t ", VolumeFault::BadLine)?);
-    assert!(rt; line_is(alloc, b"subvolumes", VolumeFault::BadLine)?);
+            VolumeFault::BadValue,
+        ),
+        (
+            b"volume v\ntype cluster/disperse\noption redundancy 1\nsubvolumes a b c\nend-volume\nvolume w\ntype cluster/disperse",
+            7,
+            VolumeFault::TwoDisperse,
+        ),
+        (
+            b"volume v\ntype cluster/disperse\nsubvolumes a b c\nend-volume\n",
+            4,
+            VolumeFault::NoRedundancy,
+        ),
+        (
+            b"volume v\ntype cluster/disperse\noption redundancy 1\nend-volume",
+            4,
+            VolumeFault::BadGeometry { n: 0, r: 1 },
+        ),
+        (b"volume v\n\n", 2, VolumeFault::NoEnd),
+        (b"volume v\ntype t\n", 2, VolumeFault::NoEnd),
+        (
+            b"volume v\ntype t\nend-volume\n#",
+            4,
+            VolumeFault::NoDisperse,
+        ),
+        (
+            b"volume v\ntype t\nend-volume\n",
+            3,
+            VolumeFault::NoDisperse,
+        ),
+        (b"", 0, VolumeFault::NoDisperse),
+        (b"\n", 1, VolumeFault::NoDisperse),
+    ];
+    for (text, line, fault) in table {
+        assert!(rt; is_refused(rt.alloc(), text, line, fault), "{line} {fault}");
+    }
     Ok(())
 }
 
 #[test]
-fn refuses_what_comes_twice(rt: HostRuntime) -> Result<(), Fail> {
-    let alloc = rt.alloc();
-    assert!(rt; line_is(alloc, b"option redundancy 2", VolumeFault::Twice)?);
-    assert!(rt; line_is(alloc, b"option redundancy x", VolumeFault::Twice)?);
-    assert!(rt; line_is(alloc, b"subvolumes a b a", VolumeFault::Twice)?);
-    assert!(rt;
-        is_refused(
-            alloc,
-            b"volume a\ntype b\nsubvolumes c c\nsubvolumes d\n",
-            4,
-            VolumeFault::Twice
-        )
-    );
-    let file = b"volume v\ntype cluster/disperse\nsubvolumes a b c\nsubvolumes d\n";
-    assert!(rt; is_refused(alloc, file, 4, VolumeFault::Twice));
+fn refuses_lines(rt: HostRuntime) -> Result<(), Fail> {
+    let table: [(&[u8], VolumeFault); 24] = [
+        (b"volume x", VolumeFault::BadLine),
+        (b"type x", VolumeFault::BadLine),
+        (b"options x y", VolumeFault::BadLine),
+        (b"option redundancy \t ", VolumeFault::BadLine),
+        (b"subvolumes", VolumeFault::BadLine),
+        (b"option redundancy 2", VolumeFault::Twice),
+        (b"option redundancy x", VolumeFault::Twice),
+        (b"subvolumes a b a", VolumeFault::Twice),
+        (b"option read-policy Round-Robin", VolumeFault::BadValue),
+        (b"option read-policy 0", VolumeFault::BadValue),
+        (b"option stripe-cache 4294967296", VolumeFault::BadValue),
+        (b"option self-heal-window-size 0", VolumeFault::BadValue),
+        (b"option self-heal-window-size 1025", VolumeFault::BadValue),
+        (
+            b"option self-heal-window-size 4294967295",
+            VolumeFault::BadValue,
+        ),
+        (
+            b"option self-heal-window-size 4294967296",
+            VolumeFault::BadValue,
+        ),
+        (b"option eager-lock 10", VolumeFault::BadValue),
+        (b"option eager-lock 11", VolumeFault::BadValue),
+        (b"option eager-lock 1024", VolumeFault::BadValue),
+        (b"option eager-lock 1025", VolumeFault::BadValue),
+        (b"option eager-lock 4294967295", VolumeFault::BadValue),
+        (b"option eager-lock ON", VolumeFault::BadValue),
+        (b"option code-rows 0", VolumeFault::BadValue),
+        (b"option code-rows 1", VolumeFault::BadValue),
+        (b"option code-rows Plain", VolumeFault::BadValue),
+    ];
+    for (line, fault) in table {
+        assert!(rt; line_is(rt.alloc(), line, fault)?, "{fault}");
+    }
+    Ok(())
+}
 
-    // Beyond the 31 that are kept, too.
-    let mut names = Vec::new(alloc);
-    names.extend_from_slice(b"subvolumes")?;
+#[test]
+fn counts_many_subvolumes(rt: HostRuntime) -> Result<(), Fail> {
+    let alloc = rt.alloc();
+    let mut names = Vec::from_slice(alloc, b"z")?;
     for i in 0..40u8 {
         names.extend_from_slice(&[b' ', b'a' + i / 10, b'0' + i % 10])?;
     }
-    let mut repeated = names.clone()?;
-    repeated.extend_from_slice(b" d8")?;
-    assert!(rt; line_is(alloc, repeated.as_slice(), VolumeFault::Twice)?);
     assert!(rt;
         shape_is(
             alloc,
             b"2",
             names.as_slice(),
+            5,
             VolumeFault::BadGeometry { n: 41, r: 2 }
         )?
     );
-    Ok(())
-}
 
-#[test]
-fn refuses_whole_files(rt: HostRuntime) -> Result<(), Fail> {
-    let alloc = rt.alloc();
-    let disperse =
-        b"volume v\ntype cluster/disperse\noption redundancy 1\nsubvolumes a b c\nend-volume\n";
-    let mut text = Vec::new(alloc);
-    text.extend_from_slice(disperse)?;
-    text.extend_from_slice(b"volume w\ntype cluster/disperse")?;
-    assert!(rt; is_refused(alloc, text.as_slice(), 7, VolumeFault::TwoDisperse));
-    assert!(rt;
-        is_refused(
-            alloc,
-            b"volume v\ntype cluster/disperse\nsubvolumes a b c\nend-volume\n",
-            4,
-            VolumeFault::NoRedundancy
-        )
-    );
-    assert!(rt;
-        is_refused(
-            alloc,
-            b"volume v\ntype cluster/disperse\noption redundancy 1\nend-volume",
-            4,
-            VolumeFault::BadGeometry { n: 0, r: 1 }
-        )
-    );
-    assert!(rt; is_refused(alloc, b"volume v\n\n", 2, VolumeFault::NoEnd));
-    assert!(rt;
-        is_refused(
-            alloc,
-            b"volume v\ntype t\nend-volume\n#",
-            4,
-            VolumeFault::NoDisperse
-        )
-    );
-    assert!(rt; is_refused(alloc, b"", 0, VolumeFault::NoDisperse));
-    assert!(rt; is_refused(alloc, b"\n", 1, VolumeFault::NoDisperse));
+    // Beyond the 31 that are kept, too, a name that comes twice is one.
+    names.extend_from_slice(b" d8")?;
+    assert!(rt; shape_is(alloc, b"2", names.as_slice(), 4, VolumeFault::Twice)?);
     Ok(())
 }
 
 #[test]
 fn reads_redundancies(rt: HostRuntime) -> Result<(), Fail> {
     let alloc = rt.alloc();
-    let bad = |r: u32| VolumeFault::BadGeometry { n: 3, r };
-    assert!(rt; shape_is(alloc, b"0", b"a b c", bad(0))?);
-    assert!(rt; shape_is(alloc, b"10", b"a b c", bad(10))?);
-    assert!(rt; shape_is(alloc, b"11", b"a b c", bad(11))?);
-    assert!(rt; shape_is(alloc, b"1024", b"a b c", bad(1024))?);
-    assert!(rt; shape_is(alloc, b"1025", b"a b c", bad(1025))?);
-    assert!(rt; shape_is(alloc, b"4294967295", b"a b c", bad(4294967295))?);
-    assert!(rt;
-        is_refused(
-            alloc,
-            b"volume v\ntype cluster/disperse\noption redundancy 4294967296\n",
-            3,
-            VolumeFault::BadValue
-        )
-    );
-    assert!(rt;
-        is_refused(
-            alloc,
-            b"volume v\ntype cluster/disperse\noption redundancy 00000000001\n",
-            3,
-            VolumeFault::BadValue
-        )
-    );
-    assert!(rt;
-        is_refused(
-            alloc,
-            b"volume v\ntype cluster/disperse\noption redundancy +1\n",
-            3,
-            VolumeFault::BadValue
-        )
-    );
+    let table: [(&[u8], u32); 6] = [
+        (b"0", 0),
+        (b"10", 10),
+        (b"11", 11),
+        (b"1024", 1024),
+        (b"1025", 1025),
+        (b"4294967295", 4294967295),
+    ];
+    for (word, r) in table {
+        assert!(rt;
+            shape_is(
+                alloc,
+                word,
+                b"a b c",
+                5,
+                VolumeFault::BadGeometry { n: 3, r }
+            )?
+        );
+    }
     let volume = read(
         alloc,
         b"volume v\ntype cluster/disperse\n\toption  redundancy\t0000000001 \nsubvolumes a\tb  c\nend-volume",
@@ -293,128 +297,151 @@ fn reads_redundancies(rt: HostRuntime) -> Result<(), Fail> {
 
 #[test]
 fn reads_caches_and_windows(rt: HostRuntime) -> Result<(), Fail> {
-    let alloc = rt.alloc();
-    assert_eq!(rt; with_option(alloc, b"option stripe-cache 0")?.cache, 0);
-    assert_eq!(rt; with_option(alloc, b"option stripe-cache 1")?.cache, 1);
-    assert_eq!(rt; with_option(alloc, b"option stripe-cache 10")?.cache, 10);
-    assert_eq!(rt; with_option(alloc, b"option stripe-cache 11")?.cache, 10);
-    assert_eq!(rt; with_option(alloc, b"option stripe-cache 1025")?.cache, 10);
-    assert_eq!(rt;
-        with_option(alloc, b"option stripe-cache 4294967295")?.cache,
-        10
-    );
-    assert!(rt;
-        line_is(
-            alloc,
-            b"option stripe-cache 4294967296",
-            VolumeFault::BadValue
-        )?
-    );
-    assert!(rt;
-        line_is(
-            alloc,
-            b"option self-heal-window-size 0",
-            VolumeFault::BadValue
-        )?
-    );
-    assert_eq!(rt;
-        with_option(alloc, b"option self-heal-window-size 1")?.window,
-        1
-    );
-    assert_eq!(rt;
-        with_option(alloc, b"option self-heal-window-size 10")?.window,
-        10
-    );
-    assert_eq!(rt;
-        with_option(alloc, b"option self-heal-window-size 11")?.window,
-        11
-    );
-    assert_eq!(rt;
-        with_option(alloc, b"option self-heal-window-size 1024")?.window,
-        1024
-    );
-    assert!(rt;
-        line_is(
-            alloc,
-            b"option self-heal-window-size 1025",
-            VolumeFault::BadValue
-        )?
-    );
-    assert!(rt;
-        line_is(
-            alloc,
-            b"option self-heal-window-size 4294967295",
-            VolumeFault::BadValue
-        )?
-    );
-    assert!(rt;
-        line_is(
-            alloc,
-            b"option self-heal-window-size 4294967296",
-            VolumeFault::BadValue
-        )?
-    );
+    let table: [(&[u8], u8, u32); 12] = [
+        (b"option stripe-cache 0", 0, 16),
+        (b"option stripe-cache 1", 1, 16),
+        (b"option stripe-cache 10", 10, 16),
+        (b"option stripe-cache 11", 10, 16),
+        (b"option stripe-cache 1024", 10, 16),
+        (b"option stripe-cache 1025", 10, 16),
+        (b"option stripe-cache 4294967295", 10, 16),
+        (b"option self-heal-window-size 1", 4, 1),
+        (b"option self-heal-window-size 10", 4, 10),
+        (b"option self-heal-window-size 11", 4, 11),
+        (b"option self-heal-window-size 1024", 4, 1024),
+        (b"option redundancies x", 4, 16),
+    ];
+    for (line, cache, window) in table {
+        let volume = with_option(rt.alloc(), line)?;
+        assert_eq!(rt; volume.cache, cache);
+        assert_eq!(rt; volume.window, window);
+    }
     Ok(())
 }
 
 #[test]
 fn reads_words_of_options(rt: HostRuntime) -> Result<(), Fail> {
-    let alloc = rt.alloc();
-    assert!(rt; with_option(alloc, b"option read-policy gfid-hash")?.policy == Policy::GfidHash);
-    assert!(rt;
-        with_option(alloc, b"option read-policy round-robin")?.policy == Policy::RoundRobin
-    );
-    assert!(rt;
-        line_is(
-            alloc,
-            b"option read-policy Round-Robin",
-            VolumeFault::BadValue
-        )?
-    );
-    let on: [&[u8]; 5] = [b"on", b"yes", b"true", b"enable", b"1"];
-    for word in on {
-        let mut line = Vec::from_slice(alloc, b"option eager-lock ")?;
-        line.extend_from_slice(word)?;
-        assert!(rt; with_option(alloc, line.as_slice())?.eager);
-    }
-    let off: [&[u8]; 5] = [b"off", b"no", b"false", b"disable", b"0"];
-    for word in off {
-        let mut line = Vec::from_slice(alloc, b"option eager-lock ")?;
-        line.extend_from_slice(word)?;
-        assert!(rt; !with_option(alloc, line.as_slice())?.eager);
-    }
-    let neither: [&[u8]; 7] = [
-        b"10",
-        b"11",
-        b"1024",
-        b"1025",
-        b"4294967295",
-        b"4294967296",
-        b"ON",
+    let table: [(&[u8], Policy, bool, Kernel, u8); 16] = [
+        (
+            b"option read-policy gfid-hash",
+            Policy::GfidHash,
+            false,
+            Kernel::Fused,
+            0,
+        ),
+        (
+            b"option read-policy round-robin",
+            Policy::RoundRobin,
+            false,
+            Kernel::Fused,
+            0,
+        ),
+        (
+            b"option eager-lock on",
+            Policy::RoundRobin,
+            true,
+            Kernel::Fused,
+            0,
+        ),
+        (
+            b"option eager-lock yes",
+            Policy::RoundRobin,
+            true,
+            Kernel::Fused,
+            0,
+        ),
+        (
+            b"option eager-lock true",
+            Policy::RoundRobin,
+            true,
+            Kernel::Fused,
+            0,
+        ),
+        (
+            b"option eager-lock enable",
+            Policy::RoundRobin,
+            true,
+            Kernel::Fused,
+            0,
+        ),
+        (
+            b"option eager-lock 1",
+            Policy::RoundRobin,
+            true,
+            Kernel::Fused,
+            0,
+        ),
+        (
+            b"option eager-lock off",
+            Policy::RoundRobin,
+            false,
+            Kernel::Fused,
+            0,
+        ),
+        (
+            b"option eager-lock no",
+            Policy::RoundRobin,
+            false,
+            Kernel::Fused,
+            0,
+        ),
+        (
+            b"option eager-lock false",
+            Policy::RoundRobin,
+            false,
+            Kernel::Fused,
+            0,
+        ),
+        (
+            b"option eager-lock disable",
+            Policy::RoundRobin,
+            false,
+            Kernel::Fused,
+            0,
+        ),
+        (
+            b"option eager-lock 0",
+            Policy::RoundRobin,
+            false,
+            Kernel::Fused,
+            0,
+        ),
+        (
+            b"option cpu-extensions none",
+            Policy::RoundRobin,
+            false,
+            Kernel::Plain,
+            0,
+        ),
+        (
+            b"option cpu-extensions avx 2",
+            Policy::RoundRobin,
+            false,
+            Kernel::Fused,
+            0,
+        ),
+        (
+            b"option code-rows systematic",
+            Policy::RoundRobin,
+            false,
+            Kernel::Fused,
+            1,
+        ),
+        (
+            b"option code-rows plain",
+            Policy::RoundRobin,
+            false,
+            Kernel::Fused,
+            0,
+        ),
     ];
-    for word in neither {
-        let mut line = Vec::from_slice(alloc, b"option eager-lock ")?;
-        line.extend_from_slice(word)?;
-        assert!(rt; line_is(alloc, line.as_slice(), VolumeFault::BadValue)?);
+    for (line, policy, eager, kernel, algorithm) in table {
+        let volume = with_option(rt.alloc(), line)?;
+        assert!(rt; volume.policy == policy);
+        assert!(rt; volume.eager == eager);
+        assert!(rt; volume.kernel == kernel);
+        assert_eq!(rt; volume.geometry.algorithm, algorithm);
     }
-    assert!(rt; with_option(alloc, b"option cpu-extensions none")?.kernel == Kernel::Plain);
-    assert!(rt; with_option(alloc, b"option cpu-extensions avx 2")?.kernel == Kernel::Fused);
-    assert_eq!(rt;
-        with_option(alloc, b"option code-rows systematic")?
-            .geometry
-            .algorithm,
-        1
-    );
-    assert_eq!(rt;
-        with_option(alloc, b"option code-rows plain")?
-            .geometry
-            .algorithm,
-        0
-    );
-    assert!(rt; line_is(alloc, b"option code-rows 1", VolumeFault::BadValue)?);
-
-    // What no row names is passed over unread.
-    assert_eq!(rt; with_option(alloc, b"option redundancies x")?.geometry.r, 1);
     Ok(())
 }
 

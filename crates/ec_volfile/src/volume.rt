@@ -36,6 +36,7 @@ impl BlobList {
         }
     }
 
+    /// How many names there are.
     pub fn len(&self) -> usize
         ensures { result ≡ length self.now }
     {

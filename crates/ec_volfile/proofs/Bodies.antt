@@ -1,20 +1,17 @@
 -- A whole section's items, in both directions.
-use Rattle.std.proofs.Common.{◌≡◌, ◌≢◌, ◌<◌, ◌≤◌, ℕ, ◌+◌, Bool, true, false, not, cond, List, [], ◌∷◌, length, Option, Some, None, Result, Ok, Err, refl, sym, ap, ◌∙◌, subst, arith}
+use Rattle.std.proofs.Common.{◌≡◌, ◌≤◌, ℕ, Bool, true, false, List, [], ◌∷◌, length, Option, Some, None, Result, Ok, Err, refl, sym, ap, ◌∙◌, subst, arith}
 use Rattle.std.specs.Prelude.{if◌then◌else◌}
-use Rattle.std.proofs.lemmas.Bool.{false≢true}
-use Rattle.ec_attr.specs.declared.policy.Policy.{Policy}
-use Rattle.ec_volfile.specs.declared.volume.Kernel.{Kernel}
 use Rattle.ec_volfile.specs.declared.options.Key.{Key}
 use Rattle.ec_volfile.specs.declared.options.Options.{Options}
 use Rattle.ec_volfile.specs.declared.section.OpenSection.{OpenSection}
 use Rattle.ec_volfile.specs.declared.section.Subvolumes.{Subvolumes}
 use Rattle.ec_volfile.specs.declared.fault.VolumeFault.{VolumeFault}
 use Rattle.ec_volfile.specs.declared.fault.VolumeFault.TheVariants.{Twice}
-use Rattle.ec_volfile.specs.Options.{key_of, set, set_by}
+use Rattle.ec_volfile.specs.Options.{key_of, set}
 use Rattle.ec_volfile.specs.Sections.{named, with_options, repeats, subvolumes_of, disperse_names, other_names}
 use Rattle.ec_volfile.specs.Grammar.{Item, Sets, Names, names_in}
-use Rattle.ec_volfile.proofs.WordLemmas.{at_true, at_false}
-use Rattle.ec_volfile.proofs.Keys.{with_value, key_values}
+use Rattle.ec_volfile.proofs.WordLemmas.{at_false}
+use Rattle.ec_volfile.proofs.Keys.{key_values}
 use Rattle.ec_volfile.specs.Statements.{with_names, take_item}
 use Rattle.ec_volfile.proofs.Items.{Becomes, take_items, set_by-Ok, becomes-named, named-becomes, becomes-names, names-becomes}
 

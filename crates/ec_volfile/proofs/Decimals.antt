@@ -1,16 +1,16 @@
 -- Numbers that are printed and read.
-use Rattle.std.proofs.Common.{◌≡◌, ◌≢◌, ◌<◌, ◌≤◌, ◌^◌, ℕ, zero, suc, ◌+◌, ◌-◌, ◌*◌, ◌/◌, ◌%◌, min, Bool, true, false, ◌&&◌, ◌||◌, not, cond, List, [], ◌∷◌, ◌++◌, length, Option, Some, None, refl, sym, ap, ◌∙◌, subst, arith, nat_eq, nat_lt}
-use Rattle.std.specs.Prelude.{if◌then◌else◌, decimal, nat_le, option_map}
-use Rattle.std.specs.List.{AllByRecursion, list_all}
+use Rattle.std.proofs.Common.{◌≡◌, ◌≢◌, ◌<◌, ◌≤◌, ◌^◌, ℕ, ◌+◌, ◌-◌, ◌*◌, ◌/◌, ◌%◌, min, Bool, true, false, ◌&&◌, List, [], ◌∷◌, ◌++◌, length, Some, None, refl, ap, ◌∙◌, arith, nat_lt}
+use Rattle.std.specs.Prelude.{decimal, nat_le, option_map}
+use Rattle.std.specs.List.{list_all}
 use Rattle.std.specs.Char.{is_ascii_digit}
 use Rattle.std.proofs.lemmas.Fmt.{decimal_by_steps, length-decimal-le, decimal_nonempty}
-use Rattle.std.proofs.lemmas.Bool.{lt-ltb, le-leb, ne_eqb, and_parts}
+use Rattle.std.proofs.lemmas.Bool.{lt-ltb, le-leb, and_parts}
 use Rattle.std.proofs.lemmas.Bool.Decides.{nat_tests}
 use Rattle.std.proofs.Math.Nat.{min-eq_left}
 use Rattle.ec_volfile.specs.Lines.{is_blank}
 use Rattle.ec_volfile.specs.Numbers.{decimal_after, is_numeric, number_of}
 use Rattle.ec_volfile.specs.Options.{cache_of, window_of, window_from}
-use Rattle.ec_volfile.proofs.WordLemmas.{at_true, at_false}
+use Rattle.ec_volfile.proofs.WordLemmas.{at_true}
 use Rattle.ec_volfile.proofs.ReadLaws.{IsClean}
 
 both : (a b : Bool) → a ≡ true → b ≡ true → (a && b) ≡ true

@@ -1,7 +1,7 @@
 -- The first fault of a file, in both directions.
-use Rattle.std.proofs.Common.{◌≡◌, ◌≢◌, ◌<◌, ◌≤◌, ◌^◌, ℕ, zero, suc, ◌+◌, Bool, true, false, ◌||◌, ◌&&◌, not, cond, List, [], ◌∷◌, ◌++◌, length, Option, Some, None, Result, Ok, Err, refl, sym, ap, ◌∙◌, subst, arith, ◌⊎◌, inl, inr, nat_lt}
+use Rattle.std.proofs.Common.{◌≡◌, ◌^◌, ℕ, ◌+◌, Bool, true, false, ◌||◌, ◌&&◌, List, [], ◌∷◌, ◌++◌, length, Option, Some, None, Result, Ok, Err, refl, sym, ap, ◌∙◌, arith, ◌⊎◌, inl, inr, nat_lt}
 use Rattle.std.specs.Prelude.{if◌then◌else◌, bytes_eq, is_some, is_none, unwrap_or}
-use Rattle.std.proofs.lemmas.Bool.{false≢true, ltb-true, ltb-false, le-ltb, lt-ltb}
+use Rattle.std.proofs.lemmas.Bool.{ltb-true, ltb-false, le-ltb, lt-ltb}
 use Rattle.ec_volfile.specs.declared.options.Key.{Key}
 use Rattle.ec_volfile.specs.declared.options.Key.TheVariants.{Redundancy, ReadPolicy, EagerLock, StripeCache, HealWindow, CpuExtensions, CodeRows}
 use Rattle.ec_volfile.specs.declared.options.Options.{Options}
@@ -10,14 +10,14 @@ use Rattle.ec_volfile.specs.declared.section.Subvolumes.{Subvolumes}
 use Rattle.ec_volfile.specs.declared.state.Place.{Place}
 use Rattle.ec_volfile.specs.declared.state.Place.TheVariants as place
 use Rattle.ec_volfile.specs.declared.fault.VolumeFault.{VolumeFault}
-use Rattle.ec_volfile.specs.declared.fault.VolumeFault.TheVariants.{TooLong, BadLine, Twice, BadValue, TwoDisperse, NoRedundancy, BadGeometry}
+use Rattle.ec_volfile.specs.declared.fault.VolumeFault.TheVariants.{TooLong, Twice, BadValue, TwoDisperse, NoRedundancy, BadGeometry}
 use Rattle.ec_volfile.specs.Lines.{lines}
 use Rattle.ec_volfile.specs.Numbers.{number_of}
 use Rattle.ec_volfile.specs.Options.{key_of, policy_of, eager_of, cache_of, window_of, kernel_of, systematic_of, once, set, set_by}
 use Rattle.ec_volfile.specs.Sections.{Front, Outline, new_section, typed, named, with_options, repeats, subvolumes_of, disperse_names, other_names, is_geometry, subvolumes_or, outline_of, volume_with, ended, step, start, finish, numbered, run, outcome}
-use Rattle.ec_volfile.specs.Grammar.{is_passed, Item, Sets, Names, disperse_type}
+use Rattle.ec_volfile.specs.Grammar.{is_passed, Sets, Names, disperse_type}
 use Rattle.ec_volfile.specs.Statements.{Statement, Begins, HasType, Holds, Ends, statement_of, with_names, lead, lead_if, advance}
-use Rattle.ec_volfile.specs.Faults.{is_set, is_bad, on_key, is_twice, shape_fault, first_fault, fault_by, line_fault, reached, IsLineFault, IsEndFault, IsFirstFault}
+use Rattle.ec_volfile.specs.Faults.{is_set, is_bad, on_key, shape_fault, first_fault, fault_by, line_fault, reached, IsLineFault, IsEndFault, IsFirstFault}
 use Rattle.ec_volfile.proofs.WordLemmas.{at_true, at_false}
 use Rattle.ec_volfile.proofs.LineLaws.{step-passed, step-stated}
 

@@ -1,5 +1,5 @@
 -- The laws of volume files.
-use Rattle.std.proofs.Common.{◌≡◌, ◌<◌, ◌≤◌, ℕ, ◌+◌, ◌*◌, Bool, true, false, List, Option, Some, Result, Ok, Err, refl, sym, ap, ◌∙◌, subst, ◌⊎◌, inl, inr}
+use Rattle.std.proofs.Common.{◌≡◌, ◌<◌, ◌≤◌, ℕ, ◌+◌, ◌*◌, List, Result, Ok, Err, refl, sym, ap, ◌∙◌, ◌⊎◌, inl, inr}
 use Rattle.std.proofs.Math.Bridge.{le_prop}
 use mathlib.Core.HLevel.{is_prop→PathP}
 use Rattle.ec_attr.specs.declared.geometry.Geometry.{Geometry}
@@ -7,10 +7,9 @@ use Rattle.ec_volfile.specs.declared.fault.VolumeFault.{VolumeFault}
 use Rattle.ec_volfile.specs.declared.volume.Volume.{Volume}
 use Rattle.ec_volfile.specs.declared.fault.VolumeFault.TheVariants.{TooLong, BadLine, Twice, BadValue, TwoDisperse, NoRedundancy, BadGeometry, NoEnd, NoDisperse, NoMemory}
 use Rattle.ec_volfile.specs.Sections.{Outline, outline, outcome, FailsAt, Reads, IsReadAs}
-use Rattle.ec_volfile.specs.Grammar.{is_passed, IsVolumeFile}
+use Rattle.ec_volfile.specs.Grammar.{IsVolumeFile}
 use Rattle.ec_volfile.specs.Faults.{IsFirstFault}
 use Rattle.ec_volfile.specs.Laws.{VolumeFileLaws}
-use Rattle.ec_volfile.specs.Statements.{Statement, Says, statement_of}
 use Rattle.ec_volfile.proofs.LineLaws.{says-stated, stated-line}
 use Rattle.ec_volfile.proofs.GrammarLaws.{outcome-grammar, grammar-outcome}
 use Rattle.ec_volfile.proofs.FaultLaws.{outcome-fault, fault-outcome, err_pair}

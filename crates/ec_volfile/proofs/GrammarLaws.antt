@@ -1,6 +1,6 @@
 -- What is read is in the grammar, and what is in the grammar is read.
-use Rattle.std.proofs.Common.{◌≡◌, ◌≢◌, ◌<◌, ◌≤◌, ◌^◌, ℕ, zero, suc, ◌+◌, Bool, true, false, ◌||◌, not, cond, List, [], ◌∷◌, ◌++◌, length, Option, Some, None, Result, Ok, Err, refl, sym, ap, ◌∙◌, subst, arith, ◌⊎◌, inl, inr, nat_lt}
-use Rattle.std.specs.Prelude.{if◌then◌else◌, bytes_eq, codes, filter, ok_or}
+use Rattle.std.proofs.Common.{◌≡◌, ◌≢◌, ◌^◌, ℕ, ◌+◌, Bool, true, false, ◌||◌, not, List, [], ◌∷◌, ◌++◌, length, Option, Some, None, Result, Ok, Err, refl, sym, ap, ◌∙◌, subst, ◌⊎◌, inl, inr, nat_lt}
+use Rattle.std.specs.Prelude.{if◌then◌else◌, bytes_eq, codes, ok_or}
 use Rattle.std.specs.List.{AllByRecursion}
 use Rattle.std.proofs.lemmas.Bool.{false≢true, ltb-false, le-ltb}
 use Rattle.std.proofs.lemmas.Slice.Eq.{bytes_eq-Decides}
@@ -8,18 +8,18 @@ use Rattle.ec_volfile.specs.declared.section.OpenSection.{OpenSection}
 use Rattle.ec_volfile.specs.declared.state.Place.{Place}
 use Rattle.ec_volfile.specs.declared.state.Place.TheVariants as place
 use Rattle.ec_volfile.specs.declared.fault.VolumeFault.{VolumeFault}
-use Rattle.ec_volfile.specs.declared.fault.VolumeFault.TheVariants.{BadLine, TwoDisperse, NoEnd, NoDisperse, TooLong}
+use Rattle.ec_volfile.specs.declared.fault.VolumeFault.TheVariants.{TwoDisperse, NoDisperse, TooLong}
 use Rattle.ec_volfile.specs.Lines.{lines, words}
 use Rattle.ec_volfile.specs.Options.{set_by}
-use Rattle.ec_volfile.specs.Sections.{Front, Outline, new_section, typed, volume_of, ended, step, start, finish_at, finish, numbered, run, outcome}
-use Rattle.ec_volfile.specs.Grammar.{is_passed, filled, Item, IsItem, Section, Closes, Follows, IsSection, AreSections, names_in, disperse_type, Describes, IsOther, IsVolumeFile}
+use Rattle.ec_volfile.specs.Sections.{Front, Outline, new_section, typed, volume_of, ended, step, start, finish_at, numbered, run, outcome}
+use Rattle.ec_volfile.specs.Grammar.{is_passed, filled, Item, IsItem, Section, Closes, Follows, AreSections, names_in, disperse_type, Describes, IsOther, IsVolumeFile}
 use Rattle.ec_volfile.proofs.WordLemmas.{at_true, at_false}
 use Rattle.ec_volfile.specs.Statements.{Statement, Begins, HasType, Holds, Ends, Says, take_item, lead}
-use Rattle.ec_volfile.proofs.LineLaws.{LeadsBy, step-passed, step-says, step-of}
+use Rattle.ec_volfile.proofs.LineLaws.{step-passed, step-says, step-of}
 use Rattle.ec_volfile.proofs.Keys.{key_values}
 use Rattle.ec_volfile.proofs.Items.{Becomes, take_items, set_by-Ok}
 use Rattle.ec_volfile.proofs.Bodies.{taken-becomes, becomes-taken, taken-other, other-taken, take_first, take_next, item_disperse}
-use Rattle.ec_volfile.proofs.Meanings.{volume-describes, HasVolume, describes-volume}
+use Rattle.ec_volfile.proofs.Meanings.{volume-describes, describes-volume}
 
 -- what sections mean where it is known whether one before them has the type, and its meaning
 abbrev Means : Bool → Option Outline → List Section → Outline → Type 0

@@ -1,5 +1,5 @@
 -- What the items of a section make of it.
-use Rattle.std.proofs.Common.{◌≡◌, ◌≢◌, ◌<◌, ◌≤◌, ℕ, ◌+◌, Bool, true, false, not, cond, List, [], ◌∷◌, length, take, Option, Some, None, Result, Ok, Err, refl, sym, ap, ◌∙◌, subst, arith}
+use Rattle.std.proofs.Common.{◌≡◌, ℕ, Bool, true, false, List, [], ◌∷◌, Option, Some, None, Result, Ok, Err, refl, sym, ap, ◌∙◌, subst}
 use Rattle.std.specs.Prelude.{if◌then◌else◌}
 use Rattle.ec_attr.specs.declared.policy.Policy.{Policy}
 use Rattle.ec_volfile.specs.declared.volume.Kernel.{Kernel}
@@ -9,13 +9,13 @@ use Rattle.ec_volfile.specs.declared.options.Options.{Options}
 use Rattle.ec_volfile.specs.declared.section.OpenSection.{OpenSection}
 use Rattle.ec_volfile.specs.declared.section.Subvolumes.{Subvolumes}
 use Rattle.ec_volfile.specs.declared.fault.VolumeFault.{VolumeFault}
-use Rattle.ec_volfile.specs.declared.fault.VolumeFault.TheVariants.{Twice, BadValue}
+use Rattle.ec_volfile.specs.declared.fault.VolumeFault.TheVariants.{Twice}
 use Rattle.ec_volfile.specs.Numbers.{number_of}
-use Rattle.ec_volfile.specs.Options.{key_of, policy_of, eager_of, cache_of, window_of, kernel_of, systematic_of, once, set, set_by}
-use Rattle.ec_volfile.specs.Sections.{named, with_options, repeats, subvolumes_of, disperse_names, other_names, new_section}
-use Rattle.ec_volfile.specs.Grammar.{Item, Sets, Names, names_in}
-use Rattle.ec_volfile.proofs.WordLemmas.{at_true, at_false}
-use Rattle.ec_volfile.proofs.Keys.{is_key, with_value, key_values}
+use Rattle.ec_volfile.specs.Options.{policy_of, eager_of, cache_of, window_of, kernel_of, systematic_of, once, set, set_by}
+use Rattle.ec_volfile.specs.Sections.{named, with_options, repeats, subvolumes_of, disperse_names, other_names}
+use Rattle.ec_volfile.specs.Grammar.{Item}
+use Rattle.ec_volfile.proofs.WordLemmas.{at_true}
+use Rattle.ec_volfile.proofs.Keys.{with_value}
 use Rattle.ec_volfile.specs.Statements.{with_names, take_item}
 
 abbrev pub kernel_some : List ℕ → Option Kernel

@@ -1,16 +1,14 @@
 -- What a line says, by its words.
-use Rattle.std.proofs.Common.{◌≡◌, ◌≢◌, ◌<◌, ◌≤◌, ℕ, zero, suc, ◌+◌, Bool, true, false, ◌||◌, not, cond, nat_eq, List, [], ◌∷◌, ◌++◌, length, Option, Some, None, Result, Ok, Err, refl, sym, ap, ◌∙◌, subst, arith, ◌⊎◌, inl, inr}
-use Rattle.std.specs.Prelude.{bytes_eq, codes, if◌then◌else◌}
+use Rattle.std.proofs.Common.{◌≡◌, ◌≢◌, ◌<◌, ℕ, suc, Bool, true, false, cond, nat_eq, List, [], ◌∷◌, length, Option, Some, None, Ok, refl, sym, ap, ◌∙◌, subst, arith, ◌⊎◌, inl, inr}
+use Rattle.std.specs.Prelude.{codes, if◌then◌else◌}
 use Rattle.std.proofs.Math.Dec.{eqb-suc-zero}
 use Rattle.std.proofs.lemmas.Bool.{false≢true}
 use Rattle.ec_volfile.specs.declared.section.Keyword.{Keyword}
 use Rattle.ec_volfile.specs.declared.section.Keyword.TheVariants as keyword
 use Rattle.ec_volfile.specs.Lines.{is_blank, words, skip_blanks, trimmed, word_of, after_word}
-use Rattle.ec_volfile.specs.Sections.{Front, keyword_of, one_word, at_place, obey, step}
-use Rattle.ec_volfile.specs.declared.fault.VolumeFault.{VolumeFault}
-use Rattle.ec_volfile.specs.declared.fault.VolumeFault.TheVariants.{BadLine}
-use Rattle.ec_volfile.specs.Grammar.{is_remark, is_passed, value_of, Item, Sets, Names, IsItem}
-use Rattle.ec_volfile.proofs.WordLemmas.{at_true, at_false, solid, skip_twice, words_skip, words_first, next_words}
+use Rattle.ec_volfile.specs.Sections.{Front, keyword_of, one_word, obey, step}
+use Rattle.ec_volfile.specs.Grammar.{is_remark, is_passed, Item, Sets, Names}
+use Rattle.ec_volfile.proofs.WordLemmas.{at_true, at_false, solid, skip_twice, words_skip, next_words}
 use Rattle.ec_volfile.specs.Statements.{Statement, Begins, HasType, Holds, Ends, Says, begins, has_type, stated, first_word, arguments, statement_of, lead, lead_if}
 use Rattle.ec_volfile.proofs.StatementLaws.{by_statement, KeywordSays, keyword_says}
 

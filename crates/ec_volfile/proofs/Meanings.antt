@@ -1,25 +1,19 @@
 -- What a disperse section means, by what it was read to.
-use Rattle.std.proofs.Common.{◌≡◌, ◌≢◌, ◌<◌, ◌≤◌, ℕ, zero, suc, ◌+◌, Bool, true, false, ◌||◌, not, cond, List, [], ◌∷◌, length, take, Option, Some, None, Result, Ok, Err, refl, sym, ap, ◌∙◌, subst, arith}
-use Rattle.std.specs.Prelude.{if◌then◌else◌, bytes_eq, codes, unwrap_or, option_map}
+use Rattle.std.proofs.Common.{◌≡◌, ◌≢◌, ◌≤◌, ℕ, Bool, true, false, List, [], ◌∷◌, length, take, Option, Some, None, Ok, Err, refl, sym, ap, ◌∙◌, subst, arith}
+use Rattle.std.specs.Prelude.{if◌then◌else◌, bytes_eq, unwrap_or, option_map}
 use Rattle.std.specs.List.{AllByRecursion, list_any}
 use Rattle.std.proofs.lemmas.Bool.{false≢true}
 use Rattle.std.proofs.lemmas.Slice.Eq.{bytes_eq-Decides}
-use Rattle.ec_attr.specs.Geometry.{IsGeometry}
-use Rattle.ec_attr.specs.declared.policy.Policy.{Policy}
 use Rattle.ec_attr.specs.declared.policy.Policy.TheVariants.{RoundRobin}
-use Rattle.ec_volfile.specs.declared.volume.Kernel.{Kernel}
 use Rattle.ec_volfile.specs.declared.volume.Kernel.TheVariants.{Fused}
-use Rattle.ec_volfile.specs.declared.options.Key.{Key}
 use Rattle.ec_volfile.specs.declared.options.Key.TheVariants.{Redundancy, ReadPolicy, EagerLock, StripeCache, HealWindow, CpuExtensions, CodeRows}
-use Rattle.ec_volfile.specs.declared.options.Options.{Options}
 use Rattle.ec_volfile.specs.declared.section.OpenSection.{OpenSection}
 use Rattle.ec_volfile.specs.declared.section.Subvolumes.{Subvolumes}
-use Rattle.ec_volfile.specs.declared.fault.VolumeFault.{VolumeFault}
 use Rattle.ec_volfile.specs.declared.fault.VolumeFault.TheVariants.{BadGeometry}
 use Rattle.ec_volfile.specs.Numbers.{number_of}
-use Rattle.ec_volfile.specs.Options.{policy_of, eager_of, cache_of, window_of, kernel_of, systematic_of}
+use Rattle.ec_volfile.specs.Options.{policy_of, eager_of, cache_of, window_of, systematic_of}
 use Rattle.ec_volfile.specs.Sections.{Outline, new_section, repeats, subvolumes_of, subvolumes_or, is_geometry, outline_of, volume_with, volume_of}
-use Rattle.ec_volfile.specs.Grammar.{Item, Section, names_in, values, HasNames, IsChosen, IsSet, NoneTwice, algorithm_of, disperse_type, Describes}
+use Rattle.ec_volfile.specs.Grammar.{Item, Section, names_in, HasNames, IsChosen, IsSet, NoneTwice, algorithm_of, disperse_type, Describes}
 use Rattle.ec_volfile.proofs.Keys.{key_values, values-by_key}
 use Rattle.ec_volfile.proofs.Items.{kernel_some, Joins, JoinsNames, Becomes}
 use Rattle.ec_volfile.proofs.Names.{or_parts, or_both, take_all}

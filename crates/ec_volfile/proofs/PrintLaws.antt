@@ -1,10 +1,9 @@
 -- The text of a volume is in the grammar and means the volume.
-use Rattle.std.proofs.Common.{◌≡◌, ◌≢◌, ◌<◌, ◌≤◌, ◌^◌, ℕ, zero, suc, ◌+◌, ◌-◌, ◌*◌, Bool, true, false, ◌&&◌, ◌||◌, not, cond, List, [], ◌∷◌, ◌++◌, length, Option, Some, None, refl, sym, ap, ◌∙◌, subst, arith, nat_eq, append_assoc, ◌⊎◌, inl, inr}
-use Rattle.std.specs.Prelude.{if◌then◌else◌, decimal, codes, bytes_eq, option_map}
+use Rattle.std.proofs.Common.{◌≡◌, ◌≢◌, ◌<◌, ◌≤◌, ◌^◌, ℕ, zero, suc, Bool, true, false, ◌&&◌, not, cond, List, [], ◌∷◌, ◌++◌, length, Some, refl, sym, ap, ◌∙◌, subst, arith, nat_eq}
+use Rattle.std.specs.Prelude.{if◌then◌else◌, decimal, codes}
 use Rattle.std.specs.List.{AllByRecursion, list_all, flat_map, onto_first}
-use Rattle.std.proofs.lemmas.Bool.{ne_eqb, eqb-false, and_parts, false≢true}
+use Rattle.std.proofs.lemmas.Bool.{ne_eqb, eqb-false, and_parts}
 use Rattle.std.proofs.lemmas.List.{append-nil}
-use Rattle.ec_attr.specs.Geometry.{IsGeometry}
 use Rattle.ec_attr.specs.declared.policy.Policy.{Policy}
 use Rattle.ec_attr.specs.declared.policy.Policy.TheVariants.{RoundRobin, GfidHash}
 use Rattle.ec_volfile.specs.declared.volume.Kernel.{Kernel}
@@ -12,10 +11,10 @@ use Rattle.ec_volfile.specs.declared.volume.Kernel.TheVariants.{Plain, Fused}
 use Rattle.ec_volfile.specs.Lines.{is_blank, lines, words, skip_blanks, trim_end, trimmed, word_of, after_word}
 use Rattle.ec_volfile.specs.Options.{policy_of, eager_of, kernel_of, systematic_of}
 use Rattle.ec_volfile.specs.Sections.{Outline}
-use Rattle.ec_volfile.specs.Grammar.{is_remark, is_passed, filled, value_of, Item, Sets, Names, IsItem, Section, AreSections, algorithm_of, disperse_type, Describes, IsVolumeFile}
+use Rattle.ec_volfile.specs.Grammar.{is_passed, filled, Item, Sets, Names, Section, AreSections, algorithm_of, disperse_type, Describes, IsVolumeFile}
 use Rattle.ec_volfile.specs.Printed.{policy_text, eager_text, kernel_text, rows_text, option_line, spaced, printed, ended_line, text_of}
 use Rattle.ec_volfile.specs.Volumes.{IsVolume, IsWord, HasWords}
-use Rattle.ec_volfile.proofs.WordLemmas.{at_true, at_false, words_first}
+use Rattle.ec_volfile.proofs.WordLemmas.{at_false, words_first}
 use Rattle.ec_volfile.proofs.GrammarLaws.{filled-some}
 use Rattle.ec_volfile.proofs.ReadLaws.{NoNewline, IsClean}
 use Rattle.ec_volfile.proofs.Decimals.{number_of-decimal, cache_of-decimal, window_of-decimal, decimal-clean, decimal-some}

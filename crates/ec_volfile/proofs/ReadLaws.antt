@@ -1,8 +1,8 @@
 -- What follows for what `read` answers.
-use Rattle.std.proofs.Common.{◌≡◌, ◌≢◌, ◌<◌, ◌≤◌, ℕ, zero, suc, ◌+◌, min, Bool, true, false, ◌&&◌, not, cond, List, [], ◌∷◌, ◌++◌, length, Option, Some, None, Result, Ok, Err, IfOk, IfErr, refl, sym, ap, ◌∙◌, subst, arith, nat_eq}
+use Rattle.std.proofs.Common.{◌≡◌, ◌≢◌, ◌≤◌, ℕ, min, Bool, true, false, ◌&&◌, not, cond, List, [], ◌∷◌, ◌++◌, length, Option, Some, None, Result, Ok, Err, IfOk, IfErr, refl, sym, subst, arith, nat_eq}
 use Rattle.std.specs.Prelude.{if◌then◌else◌, option_map, filter, nat_le}
 use Rattle.std.specs.List.{AllByRecursion, slice_split, onto_first}
-use Rattle.std.proofs.lemmas.Bool.{eqb-false, false≢true}
+use Rattle.std.proofs.lemmas.Bool.{eqb-false}
 use Rattle.std.proofs.lemmas.Bool.Decides.{nat_tests}
 use Rattle.std.proofs.Math.Dec.{eqb-suc-zero}
 use Rattle.ec_volfile.specs.declared.fault.VolumeFault.{VolumeFault}
@@ -12,8 +12,8 @@ use Rattle.ec_volfile.specs.Lines.{is_blank, lines, words}
 use Rattle.ec_volfile.specs.Numbers.{number_of}
 use Rattle.ec_volfile.specs.Options.{cache_of, window_of, window_from}
 use Rattle.ec_volfile.specs.Sections.{Outline, outline, outcome, FailsAt, Reads}
-use Rattle.ec_volfile.specs.Grammar.{is_passed, filled, Item, Sets, Names, Section, Closes, Follows, IsSection, AreSections, names_in, HasNames, IsChosen, Describes, IsVolumeFile}
-use Rattle.ec_volfile.specs.Faults.{IsFirstFault, IsFirstFaultOr}
+use Rattle.ec_volfile.specs.Grammar.{is_passed, filled, Item, Sets, Names, Section, Closes, IsSection, AreSections, names_in, HasNames, IsChosen, IsVolumeFile}
+use Rattle.ec_volfile.specs.Faults.{IsFirstFaultOr}
 use Rattle.ec_volfile.specs.Volumes.{IsVolume, IsWord, HasWords}
 use Rattle.ec_volfile.proofs.GrammarLaws.{outcome-grammar}
 use Rattle.ec_volfile.proofs.FaultLaws.{outcome-fault}

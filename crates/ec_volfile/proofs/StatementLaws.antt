@@ -1,22 +1,18 @@
 -- What a line says, and that each step is by what its line says.
-use Rattle.std.proofs.Common.{◌≡◌, ◌≢◌, ◌<◌, ◌≤◌, ℕ, zero, suc, ◌+◌, Bool, true, false, ◌||◌, not, cond, nat_eq, List, [], ◌∷◌, ◌++◌, length, Option, Some, None, Result, Ok, Err, refl, sym, ap, ◌∙◌, subst, arith}
+use Rattle.std.proofs.Common.{◌≡◌, ℕ, Bool, true, false, ◌||◌, nat_eq, List, [], ◌∷◌, length, Option, Some, None, Err, refl, sym}
 use Rattle.std.specs.Prelude.{bytes_eq, codes, if◌then◌else◌}
-use Rattle.std.proofs.Math.Dec.{eqb-suc-zero}
 use Rattle.std.proofs.lemmas.Slice.Eq.{bytes_eq-Decides}
-use Rattle.ec_volfile.specs.declared.fault.VolumeFault.{VolumeFault}
-use Rattle.ec_volfile.specs.declared.fault.VolumeFault.TheVariants.{BadLine, Twice}
+use Rattle.ec_volfile.specs.declared.fault.VolumeFault.TheVariants.{BadLine}
 use Rattle.ec_volfile.specs.declared.section.Keyword.{Keyword}
 use Rattle.ec_volfile.specs.declared.section.Keyword.TheVariants as keyword
-use Rattle.ec_volfile.specs.declared.section.OpenSection.{OpenSection}
 use Rattle.ec_volfile.specs.declared.section.Subvolumes.{Subvolumes}
 use Rattle.ec_volfile.specs.declared.state.Place.{Place}
 use Rattle.ec_volfile.specs.declared.state.Place.TheVariants as place
-use Rattle.ec_volfile.specs.Lines.{is_blank, words, skip_blanks, trimmed, word_of, after_word}
+use Rattle.ec_volfile.specs.Lines.{words, trimmed, word_of, after_word}
 use Rattle.ec_volfile.specs.Options.{key_of, set_by}
-use Rattle.ec_volfile.specs.Sections.{Front, keyword_of, one_word, begun, outside, typed, head, named, option, disperse_names, other_names, subvolumes, item, ended, body, at_place, obey, step}
+use Rattle.ec_volfile.specs.Sections.{Front, keyword_of, one_word, begun, typed, named, subvolumes, ended, at_place}
 use Rattle.ec_volfile.specs.Grammar.{is_remark, Item, Sets, Names}
-use Rattle.ec_volfile.specs.Statements.{Statement, Begins, HasType, Holds, Ends, begins, has_type, stated, with_names, take_item, lead, lead_if}
-use Rattle.ec_volfile.proofs.WordLemmas.{at_true, at_false, solid, skip_twice, words_skip, words_first, next_words}
+use Rattle.ec_volfile.specs.Statements.{Begins, HasType, Holds, Ends, begins, has_type, stated, with_names, lead, lead_if}
 
 -- where the place takes no such statement
 no_name : (f : Front) (p : Place) (o : Option (List ℕ)) → ((name : List ℕ) → lead f p (Begins name) ≡ Err BadLine) → Err BadLine ≡ lead_if f p (begins o)

@@ -1,10 +1,10 @@
 -- The faults of a volume file, line by line.
-use Rattle.std.specs.Prelude.{◌≡◌, ◌<◌, ◌≤◌, ◌^◌, ℕ, ◌+◌, Bool, true, false, ◌||◌, ◌&&◌, not, List, [], ◌∷◌, ◌++◌, length, Option, Some, None, is_some, is_none, unwrap_or, Result, Ok, Err, bytes_eq, if◌then◌else◌, ◌⊎◌}
+use Rattle.std.specs.Prelude.{◌≡◌, ◌<◌, ◌≤◌, ◌^◌, ℕ, ◌+◌, Bool, true, false, ◌||◌, ◌&&◌, List, [], ◌∷◌, ◌++◌, length, Option, Some, None, is_some, is_none, unwrap_or, Result, Ok, Err, bytes_eq, if◌then◌else◌, ◌⊎◌}
 use Rattle.ec_volfile.specs.declared.options.Key.{Key}
 use Rattle.ec_volfile.specs.declared.options.Key.TheVariants.{Redundancy, ReadPolicy, EagerLock, StripeCache, HealWindow, CpuExtensions, CodeRows}
 use Rattle.ec_volfile.specs.declared.options.Options.{Options}
 use Rattle.ec_volfile.specs.declared.fault.VolumeFault.{VolumeFault}
-use Rattle.ec_volfile.specs.declared.fault.VolumeFault.TheVariants.{TooLong, BadLine, Twice, BadValue, TwoDisperse, NoRedundancy, BadGeometry, NoEnd, NoDisperse, NoMemory}
+use Rattle.ec_volfile.specs.declared.fault.VolumeFault.TheVariants.{TooLong, BadLine, Twice, BadValue, TwoDisperse, NoRedundancy, BadGeometry, NoMemory}
 use Rattle.ec_volfile.specs.declared.state.Place.{Place}
 use Rattle.ec_volfile.specs.declared.state.Place.TheVariants as place
 use Rattle.ec_volfile.specs.Lines.{lines}

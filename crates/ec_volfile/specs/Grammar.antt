@@ -1,5 +1,5 @@
 -- The grammar of a volume file, and what a file in it means.
-use Rattle.std.specs.Prelude.{◌≡◌, ◌≢◌, ℕ, ◌+◌, ◌<◌, ◌≤◌, ◌^◌, Bool, true, false, not, List, [], ◌∷◌, ◌++◌, length, filter, Option, Some, None, option_map, bytes_eq, codes, nat_eq, if◌then◌else◌}
+use Rattle.std.specs.Prelude.{◌≡◌, ◌≢◌, ℕ, ◌<◌, ◌≤◌, ◌^◌, Bool, true, false, not, List, [], ◌∷◌, ◌++◌, length, filter, Option, Some, option_map, bytes_eq, codes, nat_eq, if◌then◌else◌}
 use Rattle.std.specs.List.{AllByRecursion}
 use Rattle.ec_attr.specs.Geometry.{IsGeometry}
 use Rattle.ec_attr.specs.declared.policy.Policy.TheVariants.{RoundRobin}

@@ -1,7 +1,5 @@
-use Rattle.std.proofs.Common.{◌≡◌, ◌∙◌, ℕ, Bool, nat_eq, length, sym, ap, [], ◌∷◌, List, drop, take, arith}
-use Rattle.std.proofs.lemmas.List.Quantifiers.{position-Some}
-use Rattle.ec_volfile.specs.Lines.{lines}
-use Rattle.ec_volfile.proofs.LineLemmas.{rest_after, none_after, lines_at, lines_whole, first_line_at, first_line_whole}
+use Rattle.std.proofs.Common.{sym}
+use Rattle.ec_volfile.proofs.LineLemmas.{first_line_at, first_line_whole}
 use Rattle.ec_volfile.proofs.lines.first_line.Goals as goal
 
 pub returns-in-Some-clause-lines : goal.returns-in-Some-clause-lines

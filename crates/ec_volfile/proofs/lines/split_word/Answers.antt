@@ -1,4 +1,4 @@
-use Rattle.std.proofs.Common.{◌≡◌, ◌∙◌, sym}
+use Rattle.std.proofs.Common.{◌∙◌, sym}
 use Rattle.ec_volfile.proofs.LineLemmas.{none_after, first_word_at, first_word_whole}
 use Rattle.ec_volfile.proofs.lines.split_word.Goals as goal
 

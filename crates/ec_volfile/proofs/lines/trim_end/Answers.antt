@@ -1,4 +1,4 @@
-use Rattle.std.proofs.Common.{◌≡◌, ◌∙◌, sym}
+use Rattle.std.proofs.Common.{◌∙◌, sym}
 use Rattle.ec_volfile.proofs.LineLemmas.{trim_end-goes, trim_end-stays}
 use Rattle.ec_volfile.proofs.lines.trim_end.Goals as goal
 

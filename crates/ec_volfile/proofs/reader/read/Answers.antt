@@ -1,4 +1,3 @@
-use Rattle.std.proofs.Common.{subst}
 use Rattle.ec_volfile.proofs.GrammarLaws.{grammar-outcome}
 use Rattle.ec_volfile.proofs.FaultLaws.{fault-outcome}
 use Rattle.ec_volfile.proofs.FileLaws.{reads-again}

@@ -1,4 +1,4 @@
-use Rattle.std.proofs.Common.{◌≡◌, ◌∙◌, ap, not, List, ℕ}
+use Rattle.std.proofs.Common.{◌∙◌, ap, not, List, ℕ}
 use Rattle.std.specs.Borrow.{Bor}
 use Rattle.ec_volfile.specs.Sections.{is_among}
 use Rattle.ec_volfile.proofs.Names.{is_among-insert, is_among-contains}

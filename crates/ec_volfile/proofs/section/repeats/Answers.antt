@@ -1,4 +1,4 @@
-use Rattle.std.proofs.Common.{◌≡◌, ◌∙◌, sym, ap, [], ◌∷◌, ◌++◌, not, arith}
+use Rattle.std.proofs.Common.{sym, [], ◌∷◌, ◌++◌}
 use Rattle.ec_volfile.proofs.Names.{IsFront-none, IsFront-more, HasSeen-none, HasSeen-more, repeats_in, repeats_none, not_true, not_false, no_bytes}
 use Rattle.ec_volfile.proofs.section.repeats.Goals as goal
 

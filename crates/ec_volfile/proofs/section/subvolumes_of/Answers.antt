@@ -1,4 +1,4 @@
-use Rattle.std.proofs.Common.{◌≡◌, ◌∙◌, sym, ap, [], ◌∷◌, ◌++◌, arith, refl}
+use Rattle.std.proofs.Common.{◌∙◌, sym, [], ◌∷◌, ◌++◌, arith, refl}
 use Rattle.ec_volfile.proofs.Names.{IsFront-none, IsFront-more, take_one, take_full}
 use Rattle.std.proofs.lemmas.List.{length-append}
 use Rattle.ec_volfile.proofs.section.subvolumes_of.Goals.{then-count-lt-MOST_BRICKS+in_ok-from_slice+in_ok-push, else-count-lt-MOST_BRICKS}

@@ -1,5 +1,4 @@
-use Rattle.std.proofs.Common.{◌≡◌, ◌≤◌, ◌+◌, ◌++◌, List, ℕ, length, take}
-use Rattle.ec_volfile.specs.Lines.{words, skip_blanks}
+use Rattle.std.proofs.Common.{◌≡◌, ◌≤◌, ◌+◌, List, ℕ, length, take}
 use Rattle.ec_volfile.proofs.section.subvolumes_of.Given as goal
 use Rattle.ec_volfile.proofs.Names.{IsFront}
 

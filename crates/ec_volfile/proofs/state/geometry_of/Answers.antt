@@ -1,5 +1,4 @@
-use Rattle.std.proofs.Common.{refl, ◌≡◌, ◌∙◌, ap, sym, ℕ, Bool, if◌then◌else◌}
-use Rattle.ec_volfile.specs.declared.fault.VolumeFault.TheVariants.{BadGeometry}
+use Rattle.std.proofs.Common.{refl, ◌∙◌, ap, sym, Bool, if◌then◌else◌}
 use Rattle.ec_volfile.proofs.Shapes.{is_geometry-yes, is_geometry-no}
 use Rattle.ec_volfile.proofs.state.geometry_of.Goals as goal
 

@@ -8,7 +8,7 @@ use Rattle.ec_volfile.specs.declared.section.Subvolumes.{Subvolumes}
 use Rattle.ec_volfile.specs.declared.fault.VolumeFault.{VolumeFault}
 use Rattle.ec_volfile.specs.declared.fault.VolumeFault.TheVariants.{Twice}
 use Rattle.ec_volfile.specs.Options.{key_of, set}
-use Rattle.ec_volfile.specs.Sections.{named, with_options, repeats, subvolumes_of, disperse_names, other_names}
+use Rattle.ec_volfile.specs.Sections.{set_named, with_options, repeats, subvolumes_of, disperse_names, other_names}
 use Rattle.ec_volfile.specs.Grammar.{Item, Sets, Names, names_in}
 use Rattle.ec_volfile.proofs.WordLemmas.{at_false}
 use Rattle.ec_volfile.proofs.Keys.{key_values}
@@ -22,7 +22,7 @@ same_Ok s u e = cc
 options_disperse : (s u : OpenSection) (r : Result Options VolumeFault) → with_options s r ≡ Ok u → u.disperse ≡ s.disperse
 options_disperse s u r e = let p = set_by-Ok (λ (o : Options). record s { options = o }) r u e in sym (ap (λ (x : OpenSection). x.disperse) p.2)
 
-named_disperse : (o : Option Key) (value : List ℕ) (s u : OpenSection) → named s o value ≡ Ok u → u.disperse ≡ s.disperse
+named_disperse : (o : Option Key) (value : List ℕ) (s u : OpenSection) → set_named s o value ≡ Ok u → u.disperse ≡ s.disperse
 named_disperse None value s u e = sym (ap (λ (x : OpenSection). x.disperse) (same_Ok s u e))
 named_disperse (Some k) value s u e = by_type s.disperse e where
   by_type : (t : Bool) → (if t then with_options s (set s.options k value) else Ok s) ≡ Ok u → u.disperse ≡ s.disperse
@@ -87,7 +87,7 @@ abbrev pub HasRoom : Option Subvolumes → List (List (List ℕ)) → Type 0
 HasRoom None nss = length nss ≤ 1
 HasRoom (Some y) nss = length nss ≤ 0
 
-other_named : (o : Option Key) (value : List ℕ) (s : OpenSection) → s.disperse ≡ false → named s o value ≡ Ok s
+other_named : (o : Option Key) (value : List ℕ) (s : OpenSection) → s.disperse ≡ false → set_named s o value ≡ Ok s
 other_named None value s d = refl
 other_named (Some k) value s d = at_false s.disperse (with_options s (set s.options k value)) (Ok s) d
 

@@ -14,10 +14,11 @@ use Rattle.ec_volfile.specs.declared.fault.VolumeFault.TheVariants.{TooLong, Twi
 use Rattle.ec_volfile.specs.Lines.{lines}
 use Rattle.ec_volfile.specs.Numbers.{number_of}
 use Rattle.ec_volfile.specs.Options.{key_of, policy_of, eager_of, cache_of, window_of, kernel_of, systematic_of, once, set, set_by}
-use Rattle.ec_volfile.specs.Sections.{Front, Outline, new_section, typed, named, with_options, repeats, subvolumes_of, disperse_names, other_names, is_geometry, subvolumes_or, outline_of, volume_with, ended, step, start, finish, numbered, run, outcome}
+use Rattle.ec_volfile.specs.Outline.{Outline}
+use Rattle.ec_volfile.specs.Sections.{Front, new_section, section_of_type, set_named, with_options, repeats, subvolumes_of, disperse_names, other_names, is_geometry, subvolumes_or, outline_of, volume_with, front_at_end, step, start, finish, with_line, run, outcome}
 use Rattle.ec_volfile.specs.Grammar.{is_passed, Sets, Names, disperse_type}
 use Rattle.ec_volfile.specs.Statements.{Statement, Begins, HasType, Holds, Ends, statement_of, with_names, lead, lead_if, advance}
-use Rattle.ec_volfile.specs.Faults.{is_set, is_bad, on_key, shape_fault, first_fault, fault_by, line_fault, reached, IsLineFault, IsEndFault, IsFirstFault}
+use Rattle.ec_volfile.specs.Faults.{is_set, is_bad, on_key, shape_fault, first_fault, fault_by, line_fault, front_after, IsLineFault, IsEndFault, IsFirstFault}
 use Rattle.ec_volfile.proofs.WordLemmas.{at_true, at_false}
 use Rattle.ec_volfile.proofs.LineLaws.{step-passed, step-stated}
 
@@ -49,7 +50,7 @@ set-fault o HealWindow value = fault-set_by (λ (x : ℕ). record o { window = S
 set-fault o CpuExtensions value = fault-set_by (λ x. record o { kernel = Some x }) (once o.kernel (Some (kernel_of value))) ∙ once-fault o.kernel (Some (kernel_of value))
 set-fault o CodeRows value = fault-set_by (λ (x : Bool). record o { systematic = Some x }) (once o.systematic (systematic_of value)) ∙ once-fault o.systematic (systematic_of value)
 
-named-fault : (s : OpenSection) (o : Option Key) (value : List ℕ) → fault (named s o value) ≡ option_fault (s.disperse && on_key o (is_set s.options)) (s.disperse && on_key o (λ k. is_bad k value))
+named-fault : (s : OpenSection) (o : Option Key) (value : List ℕ) → fault (set_named s o value) ≡ option_fault (s.disperse && on_key o (is_set s.options)) (s.disperse && on_key o (λ k. is_bad k value))
 named-fault s None value = elim s.disperse as (λ (b : Bool). None ≡ option_fault (b && false) (b && false)) [ true ↦ refl | false ↦ refl ]
 named-fault s (Some k) value =
     elim s.disperse as (λ (b : Bool). fault {A = OpenSection} (if b then with_options s (set s.options k value) else Ok s) ≡ option_fault (b && is_set s.options k) (b && is_bad k value))
@@ -65,7 +66,7 @@ names-fault s names =
       ]
     ]
 
-type-fault : (d : Bool) (name type : List ℕ) → fault (typed d name (Some type)) ≡ (if d && bytes_eq type disperse_type then Some TwoDisperse else None)
+type-fault : (d : Bool) (name type : List ℕ) → fault (section_of_type d name (Some type)) ≡ (if d && bytes_eq type disperse_type then Some TwoDisperse else None)
 type-fault d name type =
     elim (bytes_eq type disperse_type) as (λ (b : Bool). fault {A = OpenSection} (if b then (if d then Err TwoDisperse else Ok (new_section name true)) else Ok (new_section name false)) ≡ (if d && b then Some TwoDisperse else None)) [
       | true ↦ elim d as (λ (d : Bool). fault {A = OpenSection} (if d then Err TwoDisperse else Ok (new_section name true)) ≡ (if d && true then Some TwoDisperse else None)) [ true ↦ refl | false ↦ refl ]
@@ -80,7 +81,7 @@ volume-fault s bricks (Some r) =
 abbrev at_front : Place → Bool → Option Outline → Front
 at_front p d found = record { place = p; disperse = d; found = found }
 
-end-fault : (s : OpenSection) (d : Bool) (found : Option Outline) → fault (ended (at_front (place.Body s) d found) s) ≡ (if s.disperse && is_none s.options.redundancy then Some NoRedundancy else shape_fault (if s.disperse then Some ((subvolumes_or s.subvolumes).count, unwrap_or s.options.redundancy 0) else None))
+end-fault : (s : OpenSection) (d : Bool) (found : Option Outline) → fault (front_at_end (at_front (place.Body s) d found) s) ≡ (if s.disperse && is_none s.options.redundancy then Some NoRedundancy else shape_fault (if s.disperse then Some ((subvolumes_or s.subvolumes).count, unwrap_or s.options.redundancy 0) else None))
 end-fault s d found =
     elim s.disperse as (λ (b : Bool). fault {A = Front} (if b then set_by (λ v. at_front place.Outside d (Some v)) (volume_with s (subvolumes_or s.subvolumes) s.options.redundancy) else Ok (at_front place.Outside d found)) ≡ (if b && is_none s.options.redundancy then Some NoRedundancy else shape_fault (if b then Some ((subvolumes_or s.subvolumes).count, unwrap_or s.options.redundancy 0) else None)))
     [ true ↦ fault-set_by (λ (v : Outline). at_front place.Outside d (Some v)) (volume_with s (subvolumes_or s.subvolumes) s.options.redundancy) ∙ volume-fault s (subvolumes_or s.subvolumes) s.options.redundancy | false ↦ refl ]
@@ -91,12 +92,12 @@ lead-fault place.Outside d found (HasType type) = refl
 lead-fault place.Outside d found (Holds item) = refl
 lead-fault place.Outside d found Ends = refl
 lead-fault (place.Head name) d found (Begins name') = refl
-lead-fault (place.Head name) d found (HasType type) = fault-set_by (λ (s : OpenSection). at_front (place.Body s) (d || s.disperse) found) (typed d name (Some type)) ∙ type-fault d name type
+lead-fault (place.Head name) d found (HasType type) = fault-set_by (λ (s : OpenSection). at_front (place.Body s) (d || s.disperse) found) (section_of_type d name (Some type)) ∙ type-fault d name type
 lead-fault (place.Head name) d found (Holds item) = refl
 lead-fault (place.Head name) d found Ends = refl
 lead-fault (place.Body s) d found (Begins name) = refl
 lead-fault (place.Body s) d found (HasType type) = refl
-lead-fault (place.Body s) d found (Holds (Sets key value)) = fault-set_by (λ (s : OpenSection). at_front (place.Body s) d found) (named s (key_of key) value) ∙ named-fault s (key_of key) value
+lead-fault (place.Body s) d found (Holds (Sets key value)) = fault-set_by (λ (s : OpenSection). at_front (place.Body s) d found) (set_named s (key_of key) value) ∙ named-fault s (key_of key) value
 lead-fault (place.Body s) d found (Holds (Names names)) = fault-set_by (λ (s : OpenSection). at_front (place.Body s) d found) (with_names s names s.subvolumes) ∙ names-fault s names
 lead-fault (place.Body s) d found Ends = end-fault s d found
 
@@ -129,13 +130,13 @@ record LineFaultFrom (f : Front) (n : ℕ) (ls : List (List ℕ)) (m : ℕ) (e :
   all : ls ≡ before ++ line ∷ rest
   number : m ≡ n + (length before + 1)
   front : Front
-  leads : reached f before ≡ Ok front
+  leads : front_after f before ≡ Ok front
   refused : line_fault front line ≡ Some e
 
 record EndFaultFrom (f : Front) (n : ℕ) (ls : List (List ℕ)) (m : ℕ) (e : VolumeFault) : Type 0 where
   number : m ≡ n + length ls
   front : Front
-  leads : reached f ls ≡ Ok front
+  leads : front_after f ls ≡ Ok front
   refused : finish front ≡ Err e
 
 abbrev FaultFrom : Front → ℕ → List (List ℕ) → ℕ → VolumeFault → Type 0
@@ -145,7 +146,7 @@ abbrev after : ℕ → List (List ℕ) → Result Front VolumeFault → Result O
 after n ls r = elim r as (λ _. Result Outline (ℕ × VolumeFault)) [ Ok g ↦ run g (n + 1) ls | Err e ↦ Err (n + 1, e) ]
 
 abbrev reached_after : List (List ℕ) → Result Front VolumeFault → Result Front VolumeFault
-reached_after ls r = elim r as (λ _. Result Front VolumeFault) [ Ok g ↦ reached g ls | Err e ↦ Err e ]
+reached_after ls r = elim r as (λ _. Result Front VolumeFault) [ Ok g ↦ front_after g ls | Err e ↦ Err e ]
 
 abbrev error_parts : Result Outline (ℕ × VolumeFault) → ℕ × VolumeFault
 error_parts (Ok x) = (0, TooLong)
@@ -154,7 +155,7 @@ error_parts (Err e) = e
 pub err_pair : (n m : ℕ) (d e : VolumeFault) → ◌≡◌ {A = Result Outline (ℕ × VolumeFault)} (Err (n, d)) (Err (m, e)) → (n ≡ m) × (d ≡ e)
 err_pair n m d e h = (ap (λ r. (error_parts r).0) h, ap (λ r. (error_parts r).1) h)
 
-numbered-fault : (n m : ℕ) (e : VolumeFault) (r : Result Outline VolumeFault) → numbered n r ≡ Err (m, e) → (n ≡ m) × (r ≡ Err e)
+numbered-fault : (n m : ℕ) (e : VolumeFault) (r : Result Outline VolumeFault) → with_line n r ≡ Err (m, e) → (n ≡ m) × (r ≡ Err e)
 numbered-fault n m e (Ok x) h = cc
 numbered-fault n m e (Err d) h = let p = err_pair n m d e h in (p.0, ap Err p.1)
 
@@ -176,11 +177,11 @@ run-fault (line ∷ ls) f n m e h = by_step (step f line) refl h (λ g. run-faul
       let p = err_pair (n + 1) m d e h in
       inl (record { before = []; line = line; rest = ls; all = refl; number = omega (arith, p.0); front = f; leads = refl; refused = sym (step-fault f line) ∙ (ap fault s ∙ ap Some p.1) })
 
-reached-first : (ls : List (List ℕ)) (r : Result Front VolumeFault) (front : Front) → reached_after ls r ≡ Ok front → (g : Front) × (r ≡ Ok g) × (reached g ls ≡ Ok front)
+reached-first : (ls : List (List ℕ)) (r : Result Front VolumeFault) (front : Front) → reached_after ls r ≡ Ok front → (g : Front) × (r ≡ Ok g) × (front_after g ls ≡ Ok front)
 reached-first ls (Ok g) front h = (g, refl, h)
 reached-first ls (Err d) front h = cc
 
-line-run : (before : List (List ℕ)) (f : Front) (n : ℕ) (line : List ℕ) (rest : List (List ℕ)) (front : Front) (e : VolumeFault) → reached f before ≡ Ok front → line_fault front line ≡ Some e → run f n (before ++ line ∷ rest) ≡ Err (n + (length before + 1), e)
+line-run : (before : List (List ℕ)) (f : Front) (n : ℕ) (line : List ℕ) (rest : List (List ℕ)) (front : Front) (e : VolumeFault) → front_after f before ≡ Ok front → line_fault front line ≡ Some e → run f n (before ++ line ∷ rest) ≡ Err (n + (length before + 1), e)
 line-run [] f n line rest front e h r =
     ap (after n rest) (fault-Err (step f line) e (step-fault f line ∙ (ap (λ (g : Front). line_fault g line) (same_Ok f front h) ∙ r)))
 line-run (b ∷ bs) f n line rest front e h r =
@@ -188,10 +189,10 @@ line-run (b ∷ bs) f n line rest front e h r =
     let k : (n + 1) + (length bs + 1) ≡ n + (length (b ∷ bs) + 1) = omega arith in
     ap (after n (bs ++ line ∷ rest)) (step-advance f b ∙ p.1) ∙ (line-run bs p.0 (n + 1) line rest front e p.2 r ∙ ap (λ (k : ℕ). Err (k, e)) k)
 
-end-run : (ls : List (List ℕ)) (f : Front) (n : ℕ) (front : Front) (e : VolumeFault) → reached f ls ≡ Ok front → finish front ≡ Err e → run f n ls ≡ Err (n + length ls, e)
+end-run : (ls : List (List ℕ)) (f : Front) (n : ℕ) (front : Front) (e : VolumeFault) → front_after f ls ≡ Ok front → finish front ≡ Err e → run f n ls ≡ Err (n + length ls, e)
 end-run [] f n front e h r =
     let k : n ≡ n + 0 = omega arith in
-    ap (numbered n) (ap finish (same_Ok f front h) ∙ r) ∙ ap (λ (k : ℕ). Err (k, e)) k
+    ap (with_line n) (ap finish (same_Ok f front h) ∙ r) ∙ ap (λ (k : ℕ). Err (k, e)) k
 end-run (b ∷ bs) f n front e h r =
     let p = reached-first bs (advance f b) front h in
     let k : (n + 1) + length bs ≡ n + length (b ∷ bs) = omega arith in

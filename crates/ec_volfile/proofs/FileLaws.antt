@@ -6,7 +6,9 @@ use Rattle.ec_attr.specs.declared.geometry.Geometry.{Geometry}
 use Rattle.ec_volfile.specs.declared.fault.VolumeFault.{VolumeFault}
 use Rattle.ec_volfile.specs.declared.volume.Volume.{Volume}
 use Rattle.ec_volfile.specs.declared.fault.VolumeFault.TheVariants.{TooLong, BadLine, Twice, BadValue, TwoDisperse, NoRedundancy, BadGeometry, NoEnd, NoDisperse, NoMemory}
-use Rattle.ec_volfile.specs.Sections.{Outline, outline, outcome, FailsAt, Reads, IsReadAs}
+use Rattle.ec_volfile.specs.Outline.{Outline, outline}
+use Rattle.ec_volfile.specs.Reading.{FailsAt, Reads, IsReadAs}
+use Rattle.ec_volfile.specs.Sections.{outcome}
 use Rattle.ec_volfile.specs.Grammar.{IsVolumeFile}
 use Rattle.ec_volfile.specs.Faults.{IsFirstFault}
 use Rattle.ec_volfile.specs.Laws.{VolumeFileLaws}

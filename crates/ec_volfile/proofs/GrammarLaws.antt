@@ -11,8 +11,9 @@ use Rattle.ec_volfile.specs.declared.fault.VolumeFault.{VolumeFault}
 use Rattle.ec_volfile.specs.declared.fault.VolumeFault.TheVariants.{TwoDisperse, NoDisperse, TooLong}
 use Rattle.ec_volfile.specs.Lines.{lines, words}
 use Rattle.ec_volfile.specs.Options.{set_by}
-use Rattle.ec_volfile.specs.Sections.{Front, Outline, new_section, typed, volume_of, ended, step, start, finish_at, numbered, run, outcome}
-use Rattle.ec_volfile.specs.Grammar.{is_passed, filled, Item, IsItem, Section, Closes, Follows, AreSections, names_in, disperse_type, Describes, IsOther, IsVolumeFile}
+use Rattle.ec_volfile.specs.Outline.{Outline}
+use Rattle.ec_volfile.specs.Sections.{Front, new_section, section_of_type, volume_of, front_at_end, step, start, finish_at, with_line, run, outcome}
+use Rattle.ec_volfile.specs.Grammar.{is_passed, filled_lines, Item, IsItem, Section, Closes, Follows, AreSections, names_in, disperse_type, Describes, IsOther, IsVolumeFile}
 use Rattle.ec_volfile.proofs.WordLemmas.{at_true, at_false}
 use Rattle.ec_volfile.specs.Statements.{Statement, Begins, HasType, Holds, Ends, Says, take_item, lead}
 use Rattle.ec_volfile.proofs.LineLaws.{step-passed, step-says, step-of}
@@ -100,7 +101,7 @@ other_back name type line d found fls o w n c = record {
   by_means (inl m) = absurd (false≢true m.0)
   by_means (inr m) = inl (record { type = n; subvolumes = (taken-other c.items (new_section name false) c.read refl c.taken).1 }, m.1)
 
-type_back : (name type line : List ℕ) (d : Bool) (found : Option Outline) (t : OpenSection) (fls : List (List ℕ)) (o : Outline) → words line ≡ codes "type" ∷ type ∷ [] → typed d name (Some type) ≡ Ok t → Rest fls (d || t.disperse) found o t → HeadRest (line ∷ fls) d found o name
+type_back : (name type line : List ℕ) (d : Bool) (found : Option Outline) (t : OpenSection) (fls : List (List ℕ)) (o : Outline) → words line ≡ codes "type" ∷ type ∷ [] → section_of_type d name (Some type) ≡ Ok t → Rest fls (d || t.disperse) found o t → HeadRest (line ∷ fls) d found o name
 type_back name type line true found t fls o w e c = by_type (bytes_eq type disperse_type) refl e where
   by_type : (b : Bool) → bytes_eq type disperse_type ≡ b → ◌≡◌ {A = Result OpenSection VolumeFault} (if b then Err TwoDisperse else Ok (new_section name false)) (Ok t) → HeadRest (line ∷ fls) true found o name
   by_type true h e = cc
@@ -111,7 +112,7 @@ type_back name type line false found t fls o w e c = by_type (bytes_eq type disp
   by_type false h e = other_back name type line false found fls o w (λ k. false≢true (sym h ∙ (bytes_eq-Decides type disperse_type).1 k)) (subst (λ (x : OpenSection). Rest fls x.disperse found o x) (sym (same_Ok (new_section name false) t e)) c)
 
 -- `end-volume`
-end_back : (line : List ℕ) (t : OpenSection) (d : Bool) (found : Option Outline) (g : Front) (fls : List (List ℕ)) (o : Outline) → words line ≡ codes "end-volume" ∷ [] → ended (at_front (place.Body t) d found) t ≡ Ok g → Completes g fls o → Rest (line ∷ fls) d found o t
+end_back : (line : List ℕ) (t : OpenSection) (d : Bool) (found : Option Outline) (g : Front) (fls : List (List ℕ)) (o : Outline) → words line ≡ codes "end-volume" ∷ [] → front_at_end (at_front (place.Body t) d found) t ≡ Ok g → Completes g fls o → Rest (line ∷ fls) d found o t
 end_back line t d found g fls o w e c = by_type t.disperse refl e where
   by_type : (b : Bool) → t.disperse ≡ b → ◌≡◌ {A = Result Front VolumeFault} (if b then set_by (λ v. at_front place.Outside d (Some v)) (volume_of t) else Ok (at_front place.Outside d found)) (Ok g) → Rest (line ∷ fls) d found o t
   by_type true h e =
@@ -145,7 +146,7 @@ lead_back place.Outside (Holds item) d found g line fls o says e c = cc
 lead_back place.Outside Ends d found g line fls o says e c = cc
 lead_back (place.Head name) (Begins name') d found g line fls o says e c = cc
 lead_back (place.Head name) (HasType type) d found g line fls o says e c =
-    let p = set_by-Ok (λ (t : OpenSection). at_front (place.Body t) (d || t.disperse) found) (typed d name (Some type)) g e in
+    let p = set_by-Ok (λ (t : OpenSection). at_front (place.Body t) (d || t.disperse) found) (section_of_type d name (Some type)) g e in
     type_back name type line d found p.0 fls o says p.1 (subst (λ (x : Front). Completes x fls o) (sym p.2) c)
 lead_back (place.Head name) (Holds item) d found g line fls o says e c = cc
 lead_back (place.Head name) Ends d found g line fls o says e c = cc
@@ -249,28 +250,28 @@ leads_on (place.Head name) d found line fls o c = type_on name d found line fls 
 leads_on (place.Body t) d found line fls o c = body_on t d found line fls o c.items c refl c.closes c.taken
 
 -- all lines, from the end to the front
-filled-passed : (line : List ℕ) (ls : List (List ℕ)) → is_passed line ≡ true → filled (line ∷ ls) ≡ filled ls
-filled-passed line ls e = ap (λ (t : Bool). if not t then line ∷ filled ls else filled ls) e
+filled-passed : (line : List ℕ) (ls : List (List ℕ)) → is_passed line ≡ true → filled_lines (line ∷ ls) ≡ filled_lines ls
+filled-passed line ls e = ap (λ (t : Bool). if not t then line ∷ filled_lines ls else filled_lines ls) e
 
-pub filled-some : (line : List ℕ) (ls : List (List ℕ)) → is_passed line ≡ false → filled (line ∷ ls) ≡ line ∷ filled ls
-filled-some line ls e = ap (λ (t : Bool). if not t then line ∷ filled ls else filled ls) e
+pub filled-some : (line : List ℕ) (ls : List (List ℕ)) → is_passed line ≡ false → filled_lines (line ∷ ls) ≡ line ∷ filled_lines ls
+filled-some line ls e = ap (λ (t : Bool). if not t then line ∷ filled_lines ls else filled_lines ls) e
 
 found-some : (found : Option Outline) (o : Outline) → ok_or found NoDisperse ≡ Ok o → found ≡ Some o
 found-some None o e = cc
 found-some (Some p) o e = cc
 
-finish-completes : (p : Place) (d : Bool) (found : Option Outline) (n : ℕ) (o : Outline) → numbered n (finish_at p found) ≡ Ok o → CompletesAt p d found [] o
+finish-completes : (p : Place) (d : Bool) (found : Option Outline) (n : ℕ) (o : Outline) → with_line n (finish_at p found) ≡ Ok o → CompletesAt p d found [] o
 finish-completes place.Outside d found n o e = record { others = []; sections = refl; means = by_found found e } where
-  by_found : (f : Option Outline) → ◌≡◌ {A = Result Outline (ℕ × VolumeFault)} (numbered n (ok_or f NoDisperse)) (Ok o) → f ≡ Some o
+  by_found : (f : Option Outline) → ◌≡◌ {A = Result Outline (ℕ × VolumeFault)} (with_line n (ok_or f NoDisperse)) (Ok o) → f ≡ Some o
   by_found None e = cc
   by_found (Some p) e = cc
 finish-completes (place.Head name) d found n o e = cc
 finish-completes (place.Body t) d found n o e = cc
 
-completes-finish : (p : Place) (d : Bool) (found : Option Outline) (n : ℕ) (o : Outline) → CompletesAt p d found [] o → numbered n (finish_at p found) ≡ Ok o
+completes-finish : (p : Place) (d : Bool) (found : Option Outline) (n : ℕ) (o : Outline) → CompletesAt p d found [] o → with_line n (finish_at p found) ≡ Ok o
 completes-finish place.Outside d found n o c = by_sections c.others c.sections c.means where
-  by_sections : (ss : List Section) → AreSections [] ss → Means d found ss o → ◌≡◌ {A = Result Outline (ℕ × VolumeFault)} (numbered n (ok_or found NoDisperse)) (Ok o)
-  by_sections [] a m = ap (λ (f : Option Outline). numbered n (ok_or f NoDisperse)) m
+  by_sections : (ss : List Section) → AreSections [] ss → Means d found ss o → ◌≡◌ {A = Result Outline (ℕ × VolumeFault)} (with_line n (ok_or found NoDisperse)) (Ok o)
+  by_sections [] a m = ap (λ (f : Option Outline). with_line n (ok_or f NoDisperse)) m
   by_sections (s ∷ ss) a m = absurd a.1
 completes-finish (place.Head name) d found n o c = absurd c.follows
 completes-finish (place.Body t) d found n o c = absurd (no_close c.items c.closes) where
@@ -285,26 +286,26 @@ after-Ok : (n : ℕ) (ls : List (List ℕ)) (r : Result Front VolumeFault) (o : 
 after-Ok n ls (Ok g) o e = (g, refl, e)
 after-Ok n ls (Err d) o e = cc
 
-run-completes : (ls : List (List ℕ)) (f : Front) (n : ℕ) (o : Outline) → run f n ls ≡ Ok o → Completes f (filled ls) o
+run-completes : (ls : List (List ℕ)) (f : Front) (n : ℕ) (o : Outline) → run f n ls ≡ Ok o → Completes f (filled_lines ls) o
 run-completes [] f n o e = finish-completes f.place f.disperse f.found n o e
 run-completes (line ∷ ls) f n o e =
     let p = after-Ok n ls (step f line) o e in
     by_line p.0 p.1 (run-completes ls p.0 (n + 1) o p.2) (is_passed line) refl where
-      by_line : (g : Front) → step f line ≡ Ok g → Completes g (filled ls) o → (b : Bool) → is_passed line ≡ b → Completes f (filled (line ∷ ls)) o
+      by_line : (g : Front) → step f line ≡ Ok g → Completes g (filled_lines ls) o → (b : Bool) → is_passed line ≡ b → Completes f (filled_lines (line ∷ ls)) o
       by_line g s c true h =
-          subst (λ (x : List (List ℕ)). Completes f x o) (sym (filled-passed line ls h)) (subst (λ (x : Front). Completes x (filled ls) o) (sym (same_Ok f g (sym (step-passed f line h) ∙ s))) c)
+          subst (λ (x : List (List ℕ)). Completes f x o) (sym (filled-passed line ls h)) (subst (λ (x : Front). Completes x (filled_lines ls) o) (sym (same_Ok f g (sym (step-passed f line h) ∙ s))) c)
       by_line g s c false h =
           let k = step-says f g line h s in
-          subst (λ (x : List (List ℕ)). Completes f x o) (sym (filled-some line ls h)) (lead_back f.place k.0 f.disperse f.found g line (filled ls) o k.1 k.2 c)
+          subst (λ (x : List (List ℕ)). Completes f x o) (sym (filled-some line ls h)) (lead_back f.place k.0 f.disperse f.found g line (filled_lines ls) o k.1 k.2 c)
 
-completes-run : (ls : List (List ℕ)) (f : Front) (n : ℕ) (o : Outline) → Completes f (filled ls) o → run f n ls ≡ Ok o
+completes-run : (ls : List (List ℕ)) (f : Front) (n : ℕ) (o : Outline) → Completes f (filled_lines ls) o → run f n ls ≡ Ok o
 completes-run [] f n o c = completes-finish f.place f.disperse f.found n o c
 completes-run (line ∷ ls) f n o c = by_line (is_passed line) refl (λ g. completes-run ls g (n + 1) o) where
-  by_line : (b : Bool) → is_passed line ≡ b → ((g : Front) → Completes g (filled ls) o → run g (n + 1) ls ≡ Ok o) → run f n (line ∷ ls) ≡ Ok o
+  by_line : (b : Bool) → is_passed line ≡ b → ((g : Front) → Completes g (filled_lines ls) o → run g (n + 1) ls ≡ Ok o) → run f n (line ∷ ls) ≡ Ok o
   by_line true h more =
       ap (after n ls) (step-passed f line h) ∙ more f (subst (λ (x : List (List ℕ)). Completes f x o) (filled-passed line ls h) c)
   by_line false h more =
-      let k = leads_on f.place f.disperse f.found line (filled ls) o (subst (λ (x : List (List ℕ)). Completes f x o) (filled-some line ls h) c) in
+      let k = leads_on f.place f.disperse f.found line (filled_lines ls) o (subst (λ (x : List (List ℕ)). Completes f x o) (filled-some line ls h) c) in
       ap (after n ls) k.step ∙ more k.front k.completes
 
 -- after the disperse section there are others
@@ -346,9 +347,9 @@ outcome-grammar bytes o e = by_size (nat_lt (2 ^ 20) (length bytes)) refl e wher
   by_size : (b : Bool) → nat_lt (2 ^ 20) (length bytes) ≡ b → ◌≡◌ {A = Result Outline (ℕ × VolumeFault)} (if b then Err (0, TooLong) else run start 0 (lines bytes)) (Ok o) → IsVolumeFile bytes o
   by_size true h e = cc
   by_size false h e =
-      let c : OutsideRest (filled (lines bytes)) false None o = run-completes (lines bytes) start 0 o e in
+      let c : OutsideRest (filled_lines (lines bytes)) false None o = run-completes (lines bytes) start 0 o e in
       let s = means-splits c.others o c.means in
-      record { size = ltb-false (2 ^ 20) (length bytes) h; before = s.before; disperse = s.disperse; after = s.following; sections = subst (AreSections (filled (lines bytes))) s.all c.sections; others_before = s.others_before; describes = s.describes; others_after = s.others_after }
+      record { size = ltb-false (2 ^ 20) (length bytes) h; before = s.before; disperse = s.disperse; after = s.following; sections = subst (AreSections (filled_lines (lines bytes))) s.all c.sections; others_before = s.others_before; describes = s.describes; others_after = s.others_after }
 
 -- what is in the grammar is read
 pub grammar-outcome : (bytes : List ℕ) (o : Outline) → IsVolumeFile bytes o → outcome bytes ≡ Ok o

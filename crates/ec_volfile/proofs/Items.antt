@@ -12,7 +12,7 @@ use Rattle.ec_volfile.specs.declared.fault.VolumeFault.{VolumeFault}
 use Rattle.ec_volfile.specs.declared.fault.VolumeFault.TheVariants.{Twice}
 use Rattle.ec_volfile.specs.Numbers.{number_of}
 use Rattle.ec_volfile.specs.Options.{policy_of, eager_of, cache_of, window_of, kernel_of, systematic_of, once, set, set_by}
-use Rattle.ec_volfile.specs.Sections.{named, with_options, repeats, subvolumes_of, disperse_names, other_names}
+use Rattle.ec_volfile.specs.Sections.{set_named, with_options, repeats, subvolumes_of, disperse_names, other_names}
 use Rattle.ec_volfile.specs.Grammar.{Item}
 use Rattle.ec_volfile.proofs.WordLemmas.{at_true}
 use Rattle.ec_volfile.proofs.Keys.{with_value}
@@ -67,7 +67,7 @@ joins_first table v vs None new j = (j.0, ap (once None) j.1, j.2)
 joins_first table v vs (Some y) new j = absurd j
 
 -- one option more, and what it leads to
-pub becomes-named : (o : Option Key) (value : List ℕ) (s u t : OpenSection) (vs : Key → List (List ℕ)) (nss : List (List (List ℕ))) → s.disperse ≡ true → named s o value ≡ Ok u → Becomes u vs nss t → Becomes s (λ k. with_value k o value (vs k)) nss t
+pub becomes-named : (o : Option Key) (value : List ℕ) (s u t : OpenSection) (vs : Key → List (List ℕ)) (nss : List (List (List ℕ))) → s.disperse ≡ true → set_named s o value ≡ Ok u → Becomes u vs nss t → Becomes s (λ k. with_value k o value (vs k)) nss t
 unfolding set
 becomes-named None value s u t vs nss d e b =
     let c : Becomes s vs nss t = subst (λ (x : OpenSection). Becomes x vs nss t) (sym (same_Ok s u e)) b in
@@ -115,7 +115,7 @@ becomes-named (Some CodeRows) value s u t vs nss d e b =
     let c : Becomes (record s { options = record s.options { systematic = Some q.0 } }) vs nss t = subst (λ (x : OpenSection). Becomes x vs nss t) (sym (ap (λ (o : Options). record s { options = o }) q.2 ∙ p.2)) b in
     record { name = c.name; disperse = c.disperse; subvolumes = c.subvolumes; redundancy = c.redundancy; policy = c.policy; eager = c.eager; cache = c.cache; window = c.window; kernel = c.kernel; systematic = joins_one systematic_of value (vs CodeRows) s.options.systematic t.options.systematic q.0 r.0 r.1 c.systematic }
 
-pub named-becomes : (o : Option Key) (value : List ℕ) (s t : OpenSection) (vs : Key → List (List ℕ)) (nss : List (List (List ℕ))) → s.disperse ≡ true → Becomes s (λ k. with_value k o value (vs k)) nss t → (u : OpenSection) × (named s o value ≡ Ok u) × Becomes u vs nss t
+pub named-becomes : (o : Option Key) (value : List ℕ) (s t : OpenSection) (vs : Key → List (List ℕ)) (nss : List (List (List ℕ))) → s.disperse ≡ true → Becomes s (λ k. with_value k o value (vs k)) nss t → (u : OpenSection) × (set_named s o value ≡ Ok u) × Becomes u vs nss t
 unfolding set
 named-becomes None value s t vs nss d b = (s, refl, record { name = b.name; disperse = b.disperse; subvolumes = b.subvolumes; redundancy = b.redundancy; policy = b.policy; eager = b.eager; cache = b.cache; window = b.window; kernel = b.kernel; systematic = b.systematic })
 named-becomes (Some Redundancy) value s t vs nss d b =

@@ -5,11 +5,11 @@ use Rattle.std.proofs.Math.Dec.{eqb-suc-zero}
 use Rattle.std.proofs.lemmas.Bool.{false≢true}
 use Rattle.ec_volfile.specs.declared.section.Keyword.{Keyword}
 use Rattle.ec_volfile.specs.declared.section.Keyword.TheVariants as keyword
-use Rattle.ec_volfile.specs.Lines.{is_blank, words, skip_blanks, trimmed, word_of, after_word}
+use Rattle.ec_volfile.specs.Lines.{is_blank, words, skip_blanks, trim, word_of, after_word}
 use Rattle.ec_volfile.specs.Sections.{Front, keyword_of, one_word, obey, step}
 use Rattle.ec_volfile.specs.Grammar.{is_remark, is_passed, Item, Sets, Names}
 use Rattle.ec_volfile.proofs.WordLemmas.{at_true, at_false, solid, skip_twice, words_skip, next_words}
-use Rattle.ec_volfile.specs.Statements.{Statement, Begins, HasType, Holds, Ends, Says, begins, has_type, stated, first_word, arguments, statement_of, lead, lead_if}
+use Rattle.ec_volfile.specs.Statements.{Statement, Begins, HasType, Holds, Ends, Says, begins, has_type, statement_by, first_word, arguments, statement_of, lead, lead_if}
 use Rattle.ec_volfile.proofs.StatementLaws.{by_statement, KeywordSays, keyword_says}
 
 pub record HasWord (line : List ℕ) : Type 0 where
@@ -99,11 +99,11 @@ no_words : (args : List ℕ) → nat_eq (length args) 0 ≡ true → words args 
 no_words [] e = refl
 no_words (a ∷ as') e = absurd (false≢true (sym (eqb-suc-zero (length as')) ∙ e))
 
-value_some : (args : List ℕ) → 0 < length (trimmed (after_word args)) → 0 < length args
+value_some : (args : List ℕ) → 0 < length (trim (after_word args)) → 0 < length args
 value_some [] l = l
 value_some (a ∷ as') l = omega arith
 
-stated-says : (line word : List ℕ) (k : Keyword) (st : Statement) → words line ≡ word ∷ words (arguments line) → KeywordSays k word → stated k (arguments line) ≡ Some st → Says line st
+stated-says : (line word : List ℕ) (k : Keyword) (st : Statement) → words line ≡ word ∷ words (arguments line) → KeywordSays k word → statement_by k (arguments line) ≡ Some st → Says line st
 stated-says line word keyword.Nothing st w k e = cc
 stated-says line word keyword.Volume st w k e =
     let s = begun-says (arguments line) (one_word (arguments line)) st e in
@@ -113,8 +113,8 @@ stated-says line word keyword.Type st w k e =
     subst (Says line) (sym s.2) (w ∙ (ap (λ (x : List ℕ). x ∷ words (arguments line)) k ∙ ap (λ (ws : List (List ℕ)). codes "type" ∷ ws) (one_word-is (arguments line) s.0 (arguments-begin line) s.1)))
 stated-says line word keyword.Option st w k e =
     let a : List ℕ = arguments line in
-    let s = item-says (nat_eq (length (trimmed (after_word (arguments line)))) 0) (Sets (word_of (arguments line)) (trimmed (after_word (arguments line)))) st e in
-    let l = some_bytes (trimmed (after_word (arguments line))) s.0 in
+    let s = item-says (nat_eq (length (trim (after_word (arguments line)))) 0) (Sets (word_of (arguments line)) (trim (after_word (arguments line)))) st e in
+    let l = some_bytes (trim (after_word (arguments line))) s.0 in
     subst (Says line) (sym s.1) (words (skip_blanks (after_word (arguments line))), w ∙ (ap (λ (x : List ℕ). x ∷ words (arguments line)) k ∙ ap (λ (ws : List (List ℕ)). codes "option" ∷ ws) (next_words (arguments line) (arguments-begin line) (value_some (arguments line) l))), refl, l)
 stated-says line word keyword.Subvolumes st w k e =
     let s = item-says (nat_eq (length (arguments line)) 0) (Names (words (arguments line))) st e in
@@ -126,7 +126,7 @@ stated-says line word keyword.EndVolume st w k e =
 stated-says line word keyword.Other st w k e = cc
 
 -- a line that isn't passed over
-obey-some : (f : Front) (k : Keyword) (args : List ℕ) → k ≢ keyword.Nothing → obey f k args ≡ lead_if f f.place (stated k args)
+obey-some : (f : Front) (k : Keyword) (args : List ℕ) → k ≢ keyword.Nothing → obey f k args ≡ lead_if f f.place (statement_by k args)
 obey-some f keyword.Nothing args n = absurd (n refl)
 obey-some f keyword.Volume args n = by_statement f f.place keyword.Volume args
 obey-some f keyword.Type args n = by_statement f f.place keyword.Type args
@@ -152,7 +152,7 @@ step-stated f line p = by_word (first_or_none line) where
 abbrev pub LeadsBy : Front → List ℕ → Front → Type 0
 LeadsBy f line g = (st : Statement) × Says line st × (lead f f.place st ≡ Ok g)
 
-lead_some : (f : Front) (line : List ℕ) (k : Keyword) (g : Front) (o : Option Statement) → stated k (arguments line) ≡ o → lead_if f f.place o ≡ Ok g → ((st : Statement) → stated k (arguments line) ≡ Some st → Says line st) → LeadsBy f line g
+lead_some : (f : Front) (line : List ℕ) (k : Keyword) (g : Front) (o : Option Statement) → statement_by k (arguments line) ≡ o → lead_if f f.place o ≡ Ok g → ((st : Statement) → statement_by k (arguments line) ≡ Some st → Says line st) → LeadsBy f line g
 lead_some f line k g None h e says = cc
 lead_some f line k g (Some st) h e says = (st, says st h, e)
 
@@ -163,7 +163,7 @@ step-says f g line p e = by_word (first_or_none line) where
   by_word (inl n) = absurd (false≢true (sym p ∙ ap is_remark n.0))
   by_word (inr w) =
       let k : Keyword = keyword_of (first_word line) in
-      lead_some f line (keyword_of (first_word line)) g (stated (keyword_of (first_word line)) (arguments line)) refl
+      lead_some f line (keyword_of (first_word line)) g (statement_by (keyword_of (first_word line)) (arguments line)) refl
       (sym (obey-some f (keyword_of (first_word line)) (arguments line) (says_nothing line w p)) ∙ e)
       (λ st h. stated-says line (w.b ∷ w.bs) (keyword_of (first_word line)) st w.all (subst (λ (x : List ℕ). KeywordSays (keyword_of (first_word line)) x) w.first (keyword_says (first_word line))) h)
 
@@ -188,8 +188,8 @@ known_word line c cs ws e = by_word (first_or_none line) where
   by_word (inl n) = let none : [] ≡ (c ∷ cs) ∷ ws = sym n.0 ∙ e in cc
   by_word (inr w) = let s = same_args w (sym w.all ∙ e) in record { first = w.first ∙ s.0; args = s.1 }
 
-stated_by : (line word : List ℕ) (k : Keyword) (o : Option Statement) → first_word line ≡ word → keyword_of word ≡ k → stated k (arguments line) ≡ o → statement_of line ≡ o
-stated_by line word k o w h e = ap (λ (k : Keyword). stated k (arguments line)) (ap keyword_of w ∙ h) ∙ e
+stated_by : (line word : List ℕ) (k : Keyword) (o : Option Statement) → first_word line ≡ word → keyword_of word ≡ k → statement_by k (arguments line) ≡ o → statement_of line ≡ o
+stated_by line word k o w h e = ap (λ (k : Keyword). statement_by k (arguments line)) (ap keyword_of w ∙ h) ∙ e
 
 item_stated : (t : Bool) (i : Item) → t ≡ false → (if t then None else Some (Holds i)) ≡ Some (Holds i)
 item_stated t i e = ap (λ (t : Bool). if t then None else Some (Holds i)) e
@@ -217,12 +217,12 @@ says-stated line (HasType type) e =
     (ap is_remark e, stated_by line (codes "type") keyword.Type (Some (HasType type)) w.first refl (ap has_type (one_word-of (arguments line) type (arguments-begin line) w.args)))
 says-stated line (Holds (Sets key value)) e =
     let w = known_word line 111 _ (key ∷ e.0) e.1 in
-    let l : 0 < length (trimmed (after_word (arguments line))) = omega (arith, e.3, ap length e.2) in
+    let l : 0 < length (trim (after_word (arguments line))) = omega (arith, e.3, ap length e.2) in
     let k = key_first (arguments line) key e.0 (arguments-begin line) (value_some (arguments line) l) w.args in (
       ap is_remark e.1,
       stated_by line (codes "option") keyword.Option (Some (Holds (Sets key value))) w.first refl
-          (item_stated (nat_eq (length (trimmed (after_word (arguments line)))) 0) (Sets (word_of (arguments line)) (trimmed (after_word (arguments line)))) (test_some (trimmed (after_word (arguments line))) l)
-          ∙ (ap (λ (x : List ℕ). Some (Holds (Sets x (trimmed (after_word (arguments line)))))) k ∙ ap (λ (x : List ℕ). Some (Holds (Sets key x))) e.2)),
+          (item_stated (nat_eq (length (trim (after_word (arguments line)))) 0) (Sets (word_of (arguments line)) (trim (after_word (arguments line)))) (test_some (trim (after_word (arguments line))) l)
+          ∙ (ap (λ (x : List ℕ). Some (Holds (Sets x (trim (after_word (arguments line)))))) k ∙ ap (λ (x : List ℕ). Some (Holds (Sets key x))) e.2)),
     )
 says-stated line (Holds (Names names)) e =
     let w = known_word line 115 _ names e.0 in

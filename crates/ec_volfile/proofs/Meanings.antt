@@ -12,7 +12,8 @@ use Rattle.ec_volfile.specs.declared.section.Subvolumes.{Subvolumes}
 use Rattle.ec_volfile.specs.declared.fault.VolumeFault.TheVariants.{BadGeometry}
 use Rattle.ec_volfile.specs.Numbers.{number_of}
 use Rattle.ec_volfile.specs.Options.{policy_of, eager_of, cache_of, window_of, systematic_of}
-use Rattle.ec_volfile.specs.Sections.{Outline, new_section, repeats, subvolumes_of, subvolumes_or, is_geometry, outline_of, volume_with, volume_of}
+use Rattle.ec_volfile.specs.Outline.{Outline}
+use Rattle.ec_volfile.specs.Sections.{new_section, repeats, subvolumes_of, subvolumes_or, is_geometry, outline_of, volume_with, volume_of}
 use Rattle.ec_volfile.specs.Grammar.{Item, Section, names_in, HasNames, IsChosen, IsSet, NoneTwice, algorithm_of, disperse_type, Describes}
 use Rattle.ec_volfile.proofs.Keys.{key_values, values-by_key}
 use Rattle.ec_volfile.proofs.Items.{kernel_some, Joins, JoinsNames, Becomes}

@@ -8,11 +8,11 @@ use Rattle.ec_attr.specs.declared.policy.Policy.{Policy}
 use Rattle.ec_attr.specs.declared.policy.Policy.TheVariants.{RoundRobin, GfidHash}
 use Rattle.ec_volfile.specs.declared.volume.Kernel.{Kernel}
 use Rattle.ec_volfile.specs.declared.volume.Kernel.TheVariants.{Plain, Fused}
-use Rattle.ec_volfile.specs.Lines.{is_blank, lines, words, skip_blanks, trim_end, trimmed, word_of, after_word}
+use Rattle.ec_volfile.specs.Lines.{is_blank, lines, words, skip_blanks, trim_end, trim, word_of, after_word}
 use Rattle.ec_volfile.specs.Options.{policy_of, eager_of, kernel_of, systematic_of}
-use Rattle.ec_volfile.specs.Sections.{Outline}
-use Rattle.ec_volfile.specs.Grammar.{is_passed, filled, Item, Sets, Names, Section, AreSections, algorithm_of, disperse_type, Describes, IsVolumeFile}
-use Rattle.ec_volfile.specs.Printed.{policy_text, eager_text, kernel_text, rows_text, option_line, spaced, printed, ended_line, text_of}
+use Rattle.ec_volfile.specs.Outline.{Outline}
+use Rattle.ec_volfile.specs.Grammar.{is_passed, filled_lines, Item, Sets, Names, Section, AreSections, algorithm_of, disperse_type, Describes, IsVolumeFile}
+use Rattle.ec_volfile.specs.Printed.{policy_text, eager_text, kernel_text, rows_text, option_line, spaced_names, printed_lines, ended_line, text_of}
 use Rattle.ec_volfile.specs.Volumes.{IsVolume, IsWord, HasWords}
 use Rattle.ec_volfile.proofs.WordLemmas.{at_false, words_first}
 use Rattle.ec_volfile.proofs.GrammarLaws.{filled-some}
@@ -80,13 +80,13 @@ words-then (b ∷ bs) rest h =
     let p = word-before (b ∷ bs) rest h.bytes in
     words_first b (bs ++ 32 ∷ rest) h.bytes.0.0 ∙ (ap (λ (x : List ℕ). x ∷ words (after_word (b ∷ (bs ++ 32 ∷ rest)))) p.0 ∙ ap (λ (x : List ℕ). (b ∷ bs) ∷ words x) p.1)
 
-words-spaced : (n : List ℕ) (ns : List (List ℕ)) → IsWord n → AllByRecursion IsWord ns → words (n ++ spaced ns) ≡ n ∷ ns
+words-spaced : (n : List ℕ) (ns : List (List ℕ)) → IsWord n → AllByRecursion IsWord ns → words (n ++ spaced_names ns) ≡ n ∷ ns
 words-spaced n [] h hs = ap words (append-nil n) ∙ words-one n h
-words-spaced n (m ∷ ms) h hs = words-then n (m ++ spaced ms) h ∙ ap (λ (x : List (List ℕ)). n ∷ x) (words-spaced m ms hs.0 hs.1)
+words-spaced n (m ∷ ms) h hs = words-then n (m ++ spaced_names ms) h ∙ ap (λ (x : List (List ℕ)). n ∷ x) (words-spaced m ms hs.0 hs.1)
 
-newline-spaced : (ns : List (List ℕ)) → AllByRecursion IsWord ns → NoNewline (spaced ns)
+newline-spaced : (ns : List (List ℕ)) → AllByRecursion IsWord ns → NoNewline (spaced_names ns)
 newline-spaced [] h = tt
-newline-spaced (n ∷ ns) h = (λ e. cc, newline-append n (spaced ns) (clean-newline n h.0.bytes) (newline-spaced ns h.1))
+newline-spaced (n ∷ ns) h = (λ e. cc, newline-append n (spaced_names ns) (clean-newline n h.0.bytes) (newline-spaced ns h.1))
 
 -- a value without blanks
 skip-clean : (w : List ℕ) → IsClean w → skip_blanks w ≡ w
@@ -98,7 +98,7 @@ trim-clean [] h = refl
 trim-clean (b ∷ bs) h =
     ap (λ (t : Bool). cond (t && nat_eq (length (trim_end bs)) 0) [] (b ∷ trim_end bs)) h.0.0 ∙ ap (λ (x : List ℕ). b ∷ x) (trim-clean bs h.1)
 
-trimmed-clean : (w : List ℕ) → IsClean w → trimmed w ≡ w
+trimmed-clean : (w : List ℕ) → IsClean w → trim w ≡ w
 trimmed-clean w h = ap trim_end (skip-clean w h) ∙ trim-clean w h
 
 -- the values
@@ -164,11 +164,11 @@ option-newline key v h k = newline-append (codes "    option ") (key ++ 32 ∷ v
 
 -- the line of the subvolumes
 names_line : List (List ℕ) → List ℕ
-names_line bricks = codes "    subvolumes" ++ spaced bricks
+names_line bricks = codes "    subvolumes" ++ spaced_names bricks
 
 record NamesLine (bricks : List (List ℕ)) : Type 0 where
-  passed : is_passed (codes "    subvolumes" ++ spaced bricks) ≡ false
-  is : words (codes "    subvolumes" ++ spaced bricks) ≡ codes "subvolumes" ∷ bricks
+  passed : is_passed (codes "    subvolumes" ++ spaced_names bricks) ≡ false
+  is : words (codes "    subvolumes" ++ spaced_names bricks) ≡ codes "subvolumes" ∷ bricks
 
 names-line : (bricks : List (List ℕ)) → AllByRecursion IsWord bricks → 0 < length bricks → NamesLine bricks
 names-line [] h l = absurd (omega arith)
@@ -221,8 +221,8 @@ with_front o rest =
     ∷ option_line (codes "code-rows") (rows_text o.algorithm)
     ∷ rest
 
-filled-printed : (o : Outline) → NamesLine o.bricks → filled (printed o) ≡ printed o
-filled-printed o n = ap (with_front o) (filled-some (codes "    subvolumes" ++ spaced o.bricks) (codes "end-volume" ∷ []) n.passed)
+filled-printed : (o : Outline) → NamesLine o.bricks → filled_lines (printed_lines o) ≡ printed_lines o
+filled-printed o n = ap (with_front o) (filled-some (codes "    subvolumes" ++ spaced_names o.bricks) (codes "end-volume" ∷ []) n.passed)
 
 abbrev Values : Outline → Type 0
 Values o = IsValue (decimal o.r) × IsValue (decimal o.cache) × IsValue (decimal o.window)
@@ -230,7 +230,7 @@ Values o = IsValue (decimal o.r) × IsValue (decimal o.cache) × IsValue (decima
 values-of : (o : Outline) → IsVolume o → Values o
 values-of o v = (decimal-value o.r (omega (arith, v.geometry.majority, v.geometry.bricks)), decimal-value o.cache (omega (arith, v.cache)), decimal-value o.window (omega (arith, v.window_most)))
 
-is-section : (o : Outline) → IsVolume o → HasWords o → NamesLine o.bricks → AreSections (printed o) (section_of o ∷ [])
+is-section : (o : Outline) → IsVolume o → HasWords o → NamesLine o.bricks → AreSections (printed_lines o) (section_of o ∷ [])
 is-section o v w n =
     let d = values-of o v in
     let some : 0 < length o.bricks = omega (arith, v.count, v.geometry.majority) in (
@@ -269,7 +269,7 @@ is-section o v w n =
       refl,
     )
 
-no-newlines : (o : Outline) → IsVolume o → HasWords o → AllByRecursion NoNewline (printed o)
+no-newlines : (o : Outline) → IsVolume o → HasWords o → AllByRecursion NoNewline (printed_lines o)
 no-newlines o v w =
     let d = values-of o v in (
       newline-append (codes "volume ") o.name (tested (codes "volume ") refl) (clean-newline o.name w.name.bytes),
@@ -290,7 +290,7 @@ no-newlines o v w =
                     (
                       option-newline (codes "code-rows") (rows_text o.algorithm) (tested (codes "code-rows") refl) (rows-value o.algorithm),
                       (
-                        newline-append (codes "    subvolumes") (spaced o.bricks) (tested (codes "    subvolumes") refl) (newline-spaced o.bricks w.bricks),
+                        newline-append (codes "    subvolumes") (spaced_names o.bricks) (tested (codes "    subvolumes") refl) (newline-spaced o.bricks w.bricks),
                         (tested (codes "end-volume") refl, tt),
                       ),
                     ),
@@ -308,7 +308,7 @@ pub text-means : (o : Outline) (t : List ℕ) → t ≡ text_of o → IsVolume o
 unfolding text_of
 text-means o t e v w l =
     let n = names-line o.bricks w.bricks (omega (arith, v.count, v.geometry.majority)) in
-    let ls : filled (lines t) ≡ printed o = ap filled (ap lines e ∙ lines-all (printed o) (no-newlines o v w)) ∙ filled-printed o n in
+    let ls : filled_lines (lines t) ≡ printed_lines o = ap filled_lines (ap lines e ∙ lines-all (printed_lines o) (no-newlines o v w)) ∙ filled-printed o n in
     record {
       size = l;
       before = [];

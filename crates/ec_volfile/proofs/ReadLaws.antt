@@ -11,9 +11,11 @@ use Rattle.ec_volfile.specs.declared.volume.Volume.{Volume}
 use Rattle.ec_volfile.specs.Lines.{is_blank, lines, words}
 use Rattle.ec_volfile.specs.Numbers.{number_of}
 use Rattle.ec_volfile.specs.Options.{cache_of, window_of, window_from}
-use Rattle.ec_volfile.specs.Sections.{Outline, outline, outcome, FailsAt, Reads}
-use Rattle.ec_volfile.specs.Grammar.{is_passed, filled, Item, Sets, Names, Section, Closes, IsSection, AreSections, names_in, HasNames, IsChosen, IsVolumeFile}
-use Rattle.ec_volfile.specs.Faults.{IsFirstFaultOr}
+use Rattle.ec_volfile.specs.Outline.{Outline, outline}
+use Rattle.ec_volfile.specs.Reading.{FailsAt, Reads}
+use Rattle.ec_volfile.specs.Sections.{outcome}
+use Rattle.ec_volfile.specs.Grammar.{is_passed, filled_lines, Item, Sets, Names, Section, Closes, IsSection, AreSections, names_in, HasNames, IsChosen, IsVolumeFile}
+use Rattle.ec_volfile.specs.Faults.{IsFirstFaultOrNoMemory}
 use Rattle.ec_volfile.specs.Volumes.{IsVolume, IsWord, HasWords}
 use Rattle.ec_volfile.proofs.GrammarLaws.{outcome-grammar}
 use Rattle.ec_volfile.proofs.FaultLaws.{outcome-fault}
@@ -25,7 +27,7 @@ pub reads-found : (r : Result Volume (ℕ × VolumeFault)) (bytes : List ℕ) �
 reads-found (Ok v) bytes h = outcome-grammar bytes (outline v) h
 reads-found (Err e) bytes h = tt
 
-fault-at : (bytes : List ℕ) (n : ℕ) (f : VolumeFault) → FailsAt n f (outcome bytes) → IsFirstFaultOr bytes n f
+fault-at : (bytes : List ℕ) (n : ℕ) (f : VolumeFault) → FailsAt n f (outcome bytes) → IsFirstFaultOrNoMemory bytes n f
 fault-at bytes n NoMemory h = tt
 fault-at bytes n TooLong h = outcome-fault bytes n TooLong h
 fault-at bytes n BadLine h = outcome-fault bytes n BadLine h
@@ -37,7 +39,7 @@ fault-at bytes n (BadGeometry k r) h = outcome-fault bytes n (BadGeometry k r) h
 fault-at bytes n NoEnd h = outcome-fault bytes n NoEnd h
 fault-at bytes n NoDisperse h = outcome-fault bytes n NoDisperse h
 
-pub reads-fault : (r : Result Volume (ℕ × VolumeFault)) (bytes : List ℕ) → Reads r (outcome bytes) → IfErr r (λ e. IsFirstFaultOr bytes e.0 e.1)
+pub reads-fault : (r : Result Volume (ℕ × VolumeFault)) (bytes : List ℕ) → Reads r (outcome bytes) → IfErr r (λ e. IsFirstFaultOrNoMemory bytes e.0 e.1)
 reads-fault (Ok v) bytes h = tt
 reads-fault (Err e) bytes h = fault-at bytes e.0 e.1 h
 
@@ -92,11 +94,11 @@ lines-clean (b ∷ bs) = by_byte (nat_eq b 10) refl (lines-clean bs) where
   by_byte true e more = (tt, more)
   by_byte false e more = onto-clean b (lines bs) (eqb-false b 10 e) more
 
-filled-clean : (ls : List (List ℕ)) → AllByRecursion NoNewline ls → AllByRecursion NoNewline (filled ls)
+filled-clean : (ls : List (List ℕ)) → AllByRecursion NoNewline ls → AllByRecursion NoNewline (filled_lines ls)
 filled-clean [] h = tt
 filled-clean (l ∷ ls) h =
     let more = filled-clean ls h.1 in
-    elim (is_passed l) as (λ (t : Bool). AllByRecursion NoNewline (if not t then l ∷ filled ls else filled ls)) [ true ↦ more | false ↦ (h.0, more) ]
+    elim (is_passed l) as (λ (t : Bool). AllByRecursion NoNewline (if not t then l ∷ filled_lines ls else filled_lines ls)) [ true ↦ more | false ↦ (h.0, more) ]
 
 abbrev pub IsClean : List ℕ → Type 0
 IsClean part = AllByRecursion (λ b. (is_blank b ≡ false) × (b ≢ 10)) part
@@ -165,7 +167,7 @@ bricks-words (ns ∷ ms ∷ more) bricks e h = absurd e
 
 file-words : (bytes : List ℕ) (o : Outline) → IsVolumeFile bytes o → HasWords o
 file-words bytes o f =
-    let w = within-words f.before f.disperse f.after (sections-words (f.before ++ f.disperse ∷ f.after) (filled (lines bytes)) f.sections (filled-clean (lines bytes) (lines-clean bytes))) in
+    let w = within-words f.before f.disperse f.after (sections-words (f.before ++ f.disperse ∷ f.after) (filled_lines (lines bytes)) f.sections (filled-clean (lines bytes) (lines-clean bytes))) in
     record { name = subst IsWord (sym f.describes.name) w.name; bricks = bricks-words (names_in f.disperse.items) o.bricks f.describes.bricks w.names }
 
 pub reads-words : (r : Result Volume (ℕ × VolumeFault)) (bytes : List ℕ) → Reads r (outcome bytes) → IfOk r (λ v. HasWords (outline v))

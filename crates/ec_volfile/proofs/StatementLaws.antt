@@ -8,11 +8,11 @@ use Rattle.ec_volfile.specs.declared.section.Keyword.TheVariants as keyword
 use Rattle.ec_volfile.specs.declared.section.Subvolumes.{Subvolumes}
 use Rattle.ec_volfile.specs.declared.state.Place.{Place}
 use Rattle.ec_volfile.specs.declared.state.Place.TheVariants as place
-use Rattle.ec_volfile.specs.Lines.{words, trimmed, word_of, after_word}
+use Rattle.ec_volfile.specs.Lines.{words, trim, word_of, after_word}
 use Rattle.ec_volfile.specs.Options.{key_of, set_by}
-use Rattle.ec_volfile.specs.Sections.{Front, keyword_of, one_word, begun, typed, named, subvolumes, ended, at_place}
+use Rattle.ec_volfile.specs.Sections.{Front, keyword_of, one_word, place_of_name, section_of_type, set_named, subvolumes, front_at_end, at_place}
 use Rattle.ec_volfile.specs.Grammar.{is_remark, Item, Sets, Names}
-use Rattle.ec_volfile.specs.Statements.{Begins, HasType, Holds, Ends, begins, has_type, stated, with_names, lead, lead_if}
+use Rattle.ec_volfile.specs.Statements.{Begins, HasType, Holds, Ends, begins, has_type, statement_by, with_names, lead, lead_if}
 
 -- where the place takes no such statement
 no_name : (f : Front) (p : Place) (o : Option (List ℕ)) → ((name : List ℕ) → lead f p (Begins name) ≡ Err BadLine) → Err BadLine ≡ lead_if f p (begins o)
@@ -32,18 +32,18 @@ no_end f p true h = sym h
 no_end f p false h = refl
 
 -- the step by a keyword is the step by its statement
-pub by_statement : (f : Front) (p : Place) (k : Keyword) (args : List ℕ) → at_place f p k args ≡ lead_if f p (stated k args)
+pub by_statement : (f : Front) (p : Place) (k : Keyword) (args : List ℕ) → at_place f p k args ≡ lead_if f p (statement_by k args)
 by_statement f place.Outside keyword.Nothing args = refl
-by_statement f place.Outside keyword.Volume args = elim (one_word args) as (λ (o : Option (List ℕ)). set_by (λ p. record f { place = p }) (begun o) ≡ lead_if f place.Outside (begins o)) [ None ↦ refl | Some name ↦ refl ]
+by_statement f place.Outside keyword.Volume args = elim (one_word args) as (λ (o : Option (List ℕ)). set_by (λ p. record f { place = p }) (place_of_name o) ≡ lead_if f place.Outside (begins o)) [ None ↦ refl | Some name ↦ refl ]
 by_statement f place.Outside keyword.Type args = no_type f place.Outside (one_word args) (λ _. refl)
-by_statement f place.Outside keyword.Option args = no_item f place.Outside (nat_eq (length (trimmed (after_word args))) 0) (Sets (word_of args) (trimmed (after_word args))) refl
+by_statement f place.Outside keyword.Option args = no_item f place.Outside (nat_eq (length (trim (after_word args))) 0) (Sets (word_of args) (trim (after_word args))) refl
 by_statement f place.Outside keyword.Subvolumes args = no_item f place.Outside (nat_eq (length args) 0) (Names (words args)) refl
 by_statement f place.Outside keyword.EndVolume args = no_end f place.Outside (nat_eq (length args) 0) refl
 by_statement f place.Outside keyword.Other args = refl
 by_statement f (place.Head name) keyword.Nothing args = refl
 by_statement f (place.Head name) keyword.Volume args = no_name f (place.Head name) (one_word args) (λ _. refl)
-by_statement f (place.Head name) keyword.Type args = elim (one_word args) as (λ (o : Option (List ℕ)). set_by (λ s. record f { place = place.Body s; disperse = f.disperse || s.disperse }) (typed f.disperse name o) ≡ lead_if f (place.Head name) (has_type o)) [ None ↦ refl | Some type ↦ refl ]
-by_statement f (place.Head name) keyword.Option args = no_item f (place.Head name) (nat_eq (length (trimmed (after_word args))) 0) (Sets (word_of args) (trimmed (after_word args))) refl
+by_statement f (place.Head name) keyword.Type args = elim (one_word args) as (λ (o : Option (List ℕ)). set_by (λ s. record f { place = place.Body s; disperse = f.disperse || s.disperse }) (section_of_type f.disperse name o) ≡ lead_if f (place.Head name) (has_type o)) [ None ↦ refl | Some type ↦ refl ]
+by_statement f (place.Head name) keyword.Option args = no_item f (place.Head name) (nat_eq (length (trim (after_word args))) 0) (Sets (word_of args) (trim (after_word args))) refl
 by_statement f (place.Head name) keyword.Subvolumes args = no_item f (place.Head name) (nat_eq (length args) 0) (Names (words args)) refl
 by_statement f (place.Head name) keyword.EndVolume args = no_end f (place.Head name) (nat_eq (length args) 0) refl
 by_statement f (place.Head name) keyword.Other args = refl
@@ -51,11 +51,11 @@ by_statement f (place.Body s) keyword.Nothing args = refl
 by_statement f (place.Body s) keyword.Volume args = no_name f (place.Body s) (one_word args) (λ _. refl)
 by_statement f (place.Body s) keyword.Type args = no_type f (place.Body s) (one_word args) (λ _. refl)
 by_statement f (place.Body s) keyword.Option args =
-    elim (nat_eq (length (trimmed (after_word args))) 0) as (λ (t : Bool). set_by (λ s. record f { place = place.Body s }) (if t then Err BadLine else named s (key_of (word_of args)) (trimmed (after_word args))) ≡ lead_if f (place.Body s) (if t then None else Some (Holds (Sets (word_of args) (trimmed (after_word args)))))) [ true ↦ refl | false ↦ refl ]
+    elim (nat_eq (length (trim (after_word args))) 0) as (λ (t : Bool). set_by (λ s. record f { place = place.Body s }) (if t then Err BadLine else set_named s (key_of (word_of args)) (trim (after_word args))) ≡ lead_if f (place.Body s) (if t then None else Some (Holds (Sets (word_of args) (trim (after_word args)))))) [ true ↦ refl | false ↦ refl ]
 by_statement f (place.Body s) keyword.Subvolumes args =
     elim (nat_eq (length args) 0) as (λ (t : Bool). set_by (λ s. record f { place = place.Body s }) (if t then Err BadLine else subvolumes s args s.subvolumes) ≡ lead_if f (place.Body s) (if t then None else Some (Holds (Names (words args))))) [ true ↦ refl | false ↦ elim s.subvolumes as (λ (o : Option Subvolumes). set_by (λ s. record f { place = place.Body s }) (subvolumes s args o) ≡ set_by (λ s. record f { place = place.Body s }) (with_names s (words args) o)) [ None ↦ refl | Some old ↦ refl ] ]
 by_statement f (place.Body s) keyword.EndVolume args =
-    elim (nat_eq (length args) 0) as (λ (t : Bool). (if t then ended f s else Err BadLine) ≡ lead_if f (place.Body s) (if t then Some Ends else None)) [ true ↦ refl | false ↦ refl ]
+    elim (nat_eq (length args) 0) as (λ (t : Bool). (if t then front_at_end f s else Err BadLine) ≡ lead_if f (place.Body s) (if t then Some Ends else None)) [ true ↦ refl | false ↦ refl ]
 by_statement f (place.Body s) keyword.Other args = refl
 
 -- what a keyword says of a word

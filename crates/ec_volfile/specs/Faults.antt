@@ -97,9 +97,9 @@ abbrev pub line_fault : Front → List ℕ → Option VolumeFault
 line_fault f line = if is_passed line then None else fault_by f (statement_of line)
 
 -- where lines lead that have no fault
-abbrev pub reached : Front → List (List ℕ) → Result Front VolumeFault
-reached f [] = Ok f
-reached f (line ∷ ls) = elim (advance f line) [ Ok g ↦ reached g ls | Err e ↦ Err e ]
+abbrev pub front_after : Front → List (List ℕ) → Result Front VolumeFault
+front_after f [] = Ok f
+front_after f (line ∷ ls) = elim (advance f line) [ Ok g ↦ front_after g ls | Err e ↦ Err e ]
 
 -- a line has this fault, and the lines before it have none
 pub record IsLineFault (bytes : List ℕ) (n : ℕ) (fault : VolumeFault) : Type 0 where
@@ -109,14 +109,14 @@ pub record IsLineFault (bytes : List ℕ) (n : ℕ) (fault : VolumeFault) : Type
   pub all : lines bytes ≡ before ++ line ∷ rest
   pub number : n ≡ length before + 1
   pub front : Front
-  pub leads : reached start before ≡ Ok front
+  pub leads : front_after start before ≡ Ok front
   pub refused : line_fault front line ≡ Some fault
 
 -- no line has a fault, and the file ends within a section, or without a disperse section
 pub record IsEndFault (bytes : List ℕ) (n : ℕ) (fault : VolumeFault) : Type 0 where
   pub number : n ≡ length (lines bytes)
   pub front : Front
-  pub leads : reached start (lines bytes) ≡ Ok front
+  pub leads : front_after start (lines bytes) ≡ Ok front
   pub refused : finish front ≡ Err fault
 
 -- the file's first fault, with its line
@@ -126,6 +126,6 @@ IsFirstFault bytes n fault =
     ⊎ ((length bytes ≤ 2 ^ 20) × (IsLineFault bytes n fault ⊎ IsEndFault bytes n fault))
 
 -- the same, but for want of memory, beside which the number tells nothing
-abbrev pub IsFirstFaultOr : List ℕ → ℕ → VolumeFault → Type 0
-IsFirstFaultOr bytes n NoMemory = Unit {0}
-IsFirstFaultOr bytes n fault = IsFirstFault bytes n fault
+abbrev pub IsFirstFaultOrNoMemory : List ℕ → ℕ → VolumeFault → Type 0
+IsFirstFaultOrNoMemory bytes n NoMemory = Unit {0}
+IsFirstFaultOrNoMemory bytes n fault = IsFirstFault bytes n fault

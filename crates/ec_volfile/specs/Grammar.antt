@@ -4,10 +4,10 @@ use Rattle.std.specs.List.{AllByRecursion}
 use Rattle.ec_attr.specs.Geometry.{IsGeometry}
 use Rattle.ec_attr.specs.declared.policy.Policy.TheVariants.{RoundRobin}
 use Rattle.ec_volfile.specs.declared.volume.Kernel.TheVariants.{Fused}
-use Rattle.ec_volfile.specs.Lines.{lines, words, skip_blanks, trimmed, after_word}
+use Rattle.ec_volfile.specs.Lines.{lines, words, skip_blanks, trim, after_word}
 use Rattle.ec_volfile.specs.Numbers.{number_of}
 use Rattle.ec_volfile.specs.Options.{policy_of, eager_of, cache_of, window_of, kernel_of, systematic_of}
-use Rattle.ec_volfile.specs.Sections.{Outline}
+use Rattle.ec_volfile.specs.Outline.{Outline}
 
 -- a line without words, or whose first word begins with `#`, is passed over
 abbrev pub is_remark : List (List ℕ) → Bool
@@ -18,12 +18,12 @@ is_remark ((b ∷ bs) ∷ ws) = nat_eq b 35
 abbrev pub is_passed : List ℕ → Bool
 is_passed line = is_remark (words line)
 
-abbrev pub filled : List (List ℕ) → List (List ℕ)
-filled ls = filter (λ line. not (is_passed line)) ls
+abbrev pub filled_lines : List (List ℕ) → List (List ℕ)
+filled_lines ls = filter (λ line. not (is_passed line)) ls
 
 -- what stands behind the first two words of a line, without the blanks at its ends
 abbrev pub value_of : List ℕ → List ℕ
-value_of line = trimmed (after_word (skip_blanks (after_word (skip_blanks line))))
+value_of line = trim (after_word (skip_blanks (after_word (skip_blanks line))))
 
 -- within a section, after its type: `option KEY VALUE`, where VALUE isn't empty, and `subvolumes A B ..`
 pub data Item : Type 0 where
@@ -130,7 +130,7 @@ pub record IsVolumeFile (bytes : List ℕ) (o : Outline) : Type 0 where
   pub before : List Section
   pub disperse : Section
   pub after : List Section
-  pub sections : AreSections (filled (lines bytes)) (before ++ disperse ∷ after)
+  pub sections : AreSections (filled_lines (lines bytes)) (before ++ disperse ∷ after)
   pub others_before : AllByRecursion IsOther before
   pub describes : Describes disperse o
   pub others_after : AllByRecursion IsOther after

@@ -2,7 +2,7 @@
 use Rattle.std.specs.Prelude.{◌≡◌, ◌↔◌, ℕ, false, List, Some, ◌⊎◌}
 use Rattle.ec_volfile.specs.declared.fault.VolumeFault.{VolumeFault}
 use Rattle.ec_volfile.specs.declared.volume.Volume.{Volume}
-use Rattle.ec_volfile.specs.Sections.{Outline, outline}
+use Rattle.ec_volfile.specs.Outline.{Outline, outline}
 use Rattle.ec_volfile.specs.Grammar.{is_passed, IsVolumeFile}
 use Rattle.ec_volfile.specs.Faults.{IsFirstFault}
 use Rattle.ec_volfile.specs.Statements.{Statement, Says, statement_of}

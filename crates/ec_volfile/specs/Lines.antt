@@ -26,8 +26,8 @@ trim_end [] = []
 trim_end (b ∷ bs) = if is_blank b && nat_eq (length (trim_end bs)) 0 then [] else b ∷ trim_end bs
 
 -- without the blanks at both ends
-abbrev pub trimmed : List ℕ → List ℕ
-trimmed bs = trim_end (skip_blanks bs)
+abbrev pub trim : List ℕ → List ℕ
+trim bs = trim_end (skip_blanks bs)
 
 -- what stands before the first blank
 abbrev pub word_of : List ℕ → List ℕ

@@ -5,7 +5,7 @@ use Rattle.ec_attr.specs.declared.policy.Policy.{Policy}
 use Rattle.ec_attr.specs.declared.policy.Policy.TheVariants.{RoundRobin, GfidHash}
 use Rattle.ec_volfile.specs.declared.volume.Kernel.{Kernel}
 use Rattle.ec_volfile.specs.declared.volume.Kernel.TheVariants.{Plain, Fused}
-use Rattle.ec_volfile.specs.Sections.{Outline}
+use Rattle.ec_volfile.specs.Outline.{Outline}
 
 -- the values as they are printed
 
@@ -27,13 +27,13 @@ abbrev pub option_line : List ℕ → List ℕ → List ℕ
 option_line key value = codes "    option " ++ (key ++ 32 ∷ value)
 
 -- each name behind a space
-abbrev pub spaced : List (List ℕ) → List ℕ
-spaced [] = []
-spaced (name ∷ names) = 32 ∷ (name ++ spaced names)
+abbrev pub spaced_names : List (List ℕ) → List ℕ
+spaced_names [] = []
+spaced_names (name ∷ names) = 32 ∷ (name ++ spaced_names names)
 
 -- the lines of the one section
-abbrev pub printed : Outline → List (List ℕ)
-printed o =
+abbrev pub printed_lines : Outline → List (List ℕ)
+printed_lines o =
     (codes "volume " ++ o.name)
     ∷ codes "    type cluster/disperse"
     ∷ option_line (codes "redundancy") (decimal o.r)
@@ -43,7 +43,7 @@ printed o =
     ∷ option_line (codes "self-heal-window-size") (decimal o.window)
     ∷ option_line (codes "cpu-extensions") (kernel_text o.kernel)
     ∷ option_line (codes "code-rows") (rows_text o.algorithm)
-    ∷ (codes "    subvolumes" ++ spaced o.bricks)
+    ∷ (codes "    subvolumes" ++ spaced_names o.bricks)
     ∷ codes "end-volume"
     ∷ []
 
@@ -52,4 +52,4 @@ abbrev pub ended_line : List ℕ → List ℕ
 ended_line line = line ++ 10 ∷ []
 
 unfoldable pub text_of : Outline → List ℕ
-text_of o = flat_map ended_line (printed o)
+text_of o = flat_map ended_line (printed_lines o)

@@ -1,4 +1,5 @@
--- The sections of a volume file, line by line: what each line leads to, or the fault that it is.
+-- The steps of reading, line by line, as the code takes them: what each line leads to, or the fault that it is. The
+-- grammar is said apart from them, by sections, and so are the faults, by what a line says.
 use Rattle.std.specs.Prelude.{◌≡◌, ℕ, ◌+◌, ◌*◌, ◌^◌, Bool, true, false, ◌||◌, ◌&&◌, List, [], ◌∷◌, length, take, Option, Some, None, unwrap_or, ok_or, Result, Ok, Err, bytes_eq, codes, nat_eq, nat_lt, nat_le, if◌then◌else◌}
 use Rattle.std.specs.List.{list_any}
 use Rattle.std.specs.Borrow.{Bor}
@@ -18,36 +19,9 @@ use Rattle.ec_volfile.specs.declared.section.OpenSection.{OpenSection}
 use Rattle.ec_volfile.specs.declared.state.Place.{Place}
 use Rattle.ec_volfile.specs.declared.state.Place.TheVariants as place
 use Rattle.ec_volfile.specs.declared.state.State.{State}
-use Rattle.ec_volfile.specs.Lines.{lines, words, skip_blanks, trimmed, word_of, after_word}
+use Rattle.ec_volfile.specs.Lines.{lines, words, skip_blanks, trim, word_of, after_word}
 use Rattle.ec_volfile.specs.Options.{key_of, set, set_by}
-
--- a volume as its file describes it: n bricks with redundancy r, coded by an algorithm
-pub record Outline : Type 0 where
-  pub name : List ℕ
-  pub bricks : List (List ℕ)
-  pub n : ℕ
-  pub r : ℕ
-  pub algorithm : ℕ
-  pub policy : Policy
-  pub eager : Bool
-  pub cache : ℕ
-  pub window : ℕ
-  pub kernel : Kernel
-
--- what a volume says
-abbrev pub outline : Volume → Outline
-outline v = record {
-  name = v.name;
-  bricks = v.bricks;
-  n = v.geometry.n;
-  r = v.geometry.r;
-  algorithm = v.geometry.algorithm;
-  policy = v.policy;
-  eager = v.eager;
-  cache = v.cache;
-  window = v.window;
-  kernel = v.kernel;
-}
+use Rattle.ec_volfile.specs.Outline.{Outline, outline}
 
 -- what stands after the first lines: where in a section the next line stands, whether a section has the type
 -- `cluster/disperse`, and its volume, if that section is over
@@ -62,15 +36,6 @@ outline_in (Some v) = Some (outline v)
 
 abbrev pub front_of : State → Front
 front_of s = record { place = s.place; disperse = s.disperse; found = outline_in s.volume }
-
--- What a function returned, seen by a view, is what was to be, unless memory ran out.
-abbrev pub Fails : {Y : Type 0} → VolumeFault → Result Y VolumeFault → Type 0
-Fails NoMemory read = Unit {0}
-Fails f read = read ≡ Err f
-
-abbrev pub Gives : {X Y : Type 0} → (X → Y) → Result X VolumeFault → Result Y VolumeFault → Type 0
-Gives view (Ok x) read = read ≡ Ok (view x)
-Gives view (Err f) read = Fails f read
 
 -- the keyword that the first word of a line is; a line without words or with a comment says nothing
 unfoldable pub keyword_of : List ℕ → Keyword
@@ -90,12 +55,12 @@ one_word args =
     else (if nat_eq (length (skip_blanks (after_word args))) 0 then Some (word_of args) else None)
 
 -- outside a section: `volume NAME`
-abbrev pub begun : Option (List ℕ) → Result Place VolumeFault
-begun None = Err BadLine
-begun (Some name) = Ok (place.Head name)
+abbrev pub place_of_name : Option (List ℕ) → Result Place VolumeFault
+place_of_name None = Err BadLine
+place_of_name (Some name) = Ok (place.Head name)
 
 abbrev pub outside : Keyword → List ℕ → Result Place VolumeFault
-outside keyword.Volume args = begun (one_word args)
+outside keyword.Volume args = place_of_name (one_word args)
 outside _ args = Err BadLine
 
 -- after `volume NAME`: `type T`
@@ -107,26 +72,26 @@ new_section name disperse = record {
   options = record { redundancy = None; policy = None; eager = None; cache = None; window = None; kernel = None; systematic = None };
 }
 
-abbrev pub typed : Bool → List ℕ → Option (List ℕ) → Result OpenSection VolumeFault
-typed disperse name None = Err BadLine
-typed disperse name (Some type) =
+abbrev pub section_of_type : Bool → List ℕ → Option (List ℕ) → Result OpenSection VolumeFault
+section_of_type disperse name None = Err BadLine
+section_of_type disperse name (Some type) =
     if bytes_eq type (codes "cluster/disperse") then (if disperse then Err TwoDisperse else Ok (new_section name true))
     else Ok (new_section name false)
 
 abbrev pub head : Bool → List ℕ → Keyword → List ℕ → Result OpenSection VolumeFault
-head disperse name keyword.Type args = typed disperse name (one_word args)
+head disperse name keyword.Type args = section_of_type disperse name (one_word args)
 head disperse name _ args = Err BadLine
 
 -- `option KEY VALUE`, where only the disperse section's named options are read
 abbrev pub with_options : OpenSection → Result Options VolumeFault → Result OpenSection VolumeFault
 with_options s changed = set_by (λ o. record s { options = o }) changed
 
-abbrev pub named : OpenSection → Option Key → List ℕ → Result OpenSection VolumeFault
-named s None value = Ok s
-named s (Some key) value = if s.disperse then with_options s (set s.options key value) else Ok s
+abbrev pub set_named : OpenSection → Option Key → List ℕ → Result OpenSection VolumeFault
+set_named s None value = Ok s
+set_named s (Some key) value = if s.disperse then with_options s (set s.options key value) else Ok s
 
 abbrev pub option : OpenSection → List ℕ → List ℕ → Result OpenSection VolumeFault
-option s key value = if nat_eq (length value) 0 then Err BadLine else named s (key_of key) value
+option s key value = if nat_eq (length value) 0 then Err BadLine else set_named s (key_of key) value
 
 -- a name comes twice
 abbrev pub repeats : List (List ℕ) → Bool
@@ -153,7 +118,7 @@ subvolumes s args None = if s.disperse then disperse_names s (words args) else o
 
 -- within a section: an option, or the subvolumes
 abbrev pub item : OpenSection → Keyword → List ℕ → Result OpenSection VolumeFault
-item s keyword.Option args = option s (word_of args) (trimmed (after_word args))
+item s keyword.Option args = option s (word_of args) (trim (after_word args))
 item s keyword.Subvolumes args = if nat_eq (length args) 0 then Err BadLine else subvolumes s args s.subvolumes
 item s _ args = Err BadLine
 
@@ -188,13 +153,13 @@ abbrev pub volume_of : OpenSection → Result Outline VolumeFault
 volume_of s = volume_with s (subvolumes_or s.subvolumes) s.options.redundancy
 
 -- `end-volume`
-abbrev pub ended : Front → OpenSection → Result Front VolumeFault
-ended f s =
+abbrev pub front_at_end : Front → OpenSection → Result Front VolumeFault
+front_at_end f s =
     if s.disperse then set_by (λ v. record f { place = place.Outside; found = Some v }) (volume_of s)
     else Ok (record f { place = place.Outside })
 
 abbrev pub body : Front → OpenSection → Keyword → List ℕ → Result Front VolumeFault
-body f s keyword.EndVolume args = if nat_eq (length args) 0 then ended f s else Err BadLine
+body f s keyword.EndVolume args = if nat_eq (length args) 0 then front_at_end f s else Err BadLine
 body f s k args = set_by (λ s. record f { place = place.Body s }) (item s k args)
 
 abbrev pub at_place : Front → Place → Keyword → List ℕ → Result Front VolumeFault
@@ -223,28 +188,14 @@ abbrev pub finish : Front → Result Outline VolumeFault
 finish f = finish_at f.place f.found
 
 -- The lines from number n + 1 on, after the lines before them. A fault stands with its line's number.
-abbrev pub numbered : {X : Type 0} → ℕ → Result X VolumeFault → Result X (ℕ × VolumeFault)
-numbered n (Ok x) = Ok x
-numbered n (Err f) = Err (n, f)
+abbrev pub with_line : {X : Type 0} → ℕ → Result X VolumeFault → Result X (ℕ × VolumeFault)
+with_line n (Ok x) = Ok x
+with_line n (Err f) = Err (n, f)
 
 abbrev pub run : Front → ℕ → List (List ℕ) → Result Outline (ℕ × VolumeFault)
-run f n [] = numbered n (finish f)
+run f n [] = with_line n (finish f)
 run f n (line ∷ lines) = elim (step f line) [ Ok f ↦ run f (n + 1) lines | Err e ↦ Err (n + 1, e) ]
 
 -- what reading a file gives: its volume, or the first fault with its line
 abbrev pub outcome : List ℕ → Result Outline (ℕ × VolumeFault)
 outcome bytes = if nat_lt (2 ^ 20) (length bytes) then Err (0, TooLong) else run start 0 (lines bytes)
-
--- What was read is this, unless memory ran out. Then the number of the line tells nothing.
-abbrev pub FailsAt : {Y : Type 0} → ℕ → VolumeFault → Result Y (ℕ × VolumeFault) → Type 0
-FailsAt n NoMemory read = Unit {0}
-FailsAt n f read = read ≡ Err (n, f)
-
-abbrev pub Reads : Result Volume (ℕ × VolumeFault) → Result Outline (ℕ × VolumeFault) → Type 0
-Reads (Ok v) read = read ≡ Ok (outline v)
-Reads (Err e) read = FailsAt e.0 e.1 read
-
--- what was read is this volume, unless memory ran out
-abbrev pub IsReadAs : Result Volume (ℕ × VolumeFault) → Volume → Type 0
-IsReadAs (Ok w) v = w ≡ v
-IsReadAs (Err e) v = e.1 ≡ NoMemory

@@ -8,9 +8,9 @@ use Rattle.ec_volfile.specs.declared.state.Place.{Place}
 use Rattle.ec_volfile.specs.declared.state.Place.TheVariants as place
 use Rattle.ec_volfile.specs.declared.section.Keyword.{Keyword}
 use Rattle.ec_volfile.specs.declared.section.Keyword.TheVariants as keyword
-use Rattle.ec_volfile.specs.Lines.{words, skip_blanks, trimmed, word_of, after_word}
+use Rattle.ec_volfile.specs.Lines.{words, skip_blanks, trim, word_of, after_word}
 use Rattle.ec_volfile.specs.Options.{key_of, set_by}
-use Rattle.ec_volfile.specs.Sections.{Front, keyword_of, one_word, typed, named, disperse_names, other_names, ended}
+use Rattle.ec_volfile.specs.Sections.{Front, keyword_of, one_word, section_of_type, set_named, disperse_names, other_names, front_at_end}
 use Rattle.ec_volfile.specs.Grammar.{Item, Sets, Names, IsItem, is_passed}
 
 -- what a line can say
@@ -36,13 +36,13 @@ abbrev pub has_type : Option (List ℕ) → Option Statement
 has_type None = None
 has_type (Some type) = Some (HasType type)
 
-abbrev pub stated : Keyword → List ℕ → Option Statement
-stated keyword.Volume args = begins (one_word args)
-stated keyword.Type args = has_type (one_word args)
-stated keyword.Option args = if nat_eq (length (trimmed (after_word args))) 0 then None else Some (Holds (Sets (word_of args) (trimmed (after_word args))))
-stated keyword.Subvolumes args = if nat_eq (length args) 0 then None else Some (Holds (Names (words args)))
-stated keyword.EndVolume args = if nat_eq (length args) 0 then Some Ends else None
-stated _ args = None
+abbrev pub statement_by : Keyword → List ℕ → Option Statement
+statement_by keyword.Volume args = begins (one_word args)
+statement_by keyword.Type args = has_type (one_word args)
+statement_by keyword.Option args = if nat_eq (length (trim (after_word args))) 0 then None else Some (Holds (Sets (word_of args) (trim (after_word args))))
+statement_by keyword.Subvolumes args = if nat_eq (length args) 0 then None else Some (Holds (Names (words args)))
+statement_by keyword.EndVolume args = if nat_eq (length args) 0 then Some Ends else None
+statement_by _ args = None
 
 -- the first word of a line, and what follows it
 abbrev pub first_word : List ℕ → List ℕ
@@ -53,7 +53,7 @@ arguments line = skip_blanks (after_word (skip_blanks line))
 
 -- the statement of a line that isn't passed over, if it makes one
 abbrev pub statement_of : List ℕ → Option Statement
-statement_of line = stated (keyword_of (first_word line)) (arguments line)
+statement_of line = statement_by (keyword_of (first_word line)) (arguments line)
 
 -- what a section becomes by an item
 abbrev pub with_names : OpenSection → List (List ℕ) → Option Subvolumes → Result OpenSection VolumeFault
@@ -61,15 +61,15 @@ with_names s names (Some old) = Err Twice
 with_names s names None = if s.disperse then disperse_names s names else other_names s
 
 abbrev pub take_item : OpenSection → Item → Result OpenSection VolumeFault
-take_item s (Sets key value) = named s (key_of key) value
+take_item s (Sets key value) = set_named s (key_of key) value
 take_item s (Names names) = with_names s names s.subvolumes
 
 -- what a statement leads to
 abbrev pub lead : Front → Place → Statement → Result Front VolumeFault
 lead f place.Outside (Begins name) = Ok (record f { place = place.Head name })
-lead f (place.Head name) (HasType type) = set_by (λ s. record f { place = place.Body s; disperse = f.disperse || s.disperse }) (typed f.disperse name (Some type))
+lead f (place.Head name) (HasType type) = set_by (λ s. record f { place = place.Body s; disperse = f.disperse || s.disperse }) (section_of_type f.disperse name (Some type))
 lead f (place.Body s) (Holds item) = set_by (λ s. record f { place = place.Body s }) (take_item s item)
-lead f (place.Body s) Ends = ended f s
+lead f (place.Body s) Ends = front_at_end f s
 lead f p st = Err BadLine
 
 abbrev pub lead_if : Front → Place → Option Statement → Result Front VolumeFault

@@ -3,7 +3,7 @@ use Rattle.std.specs.Prelude.{◌≡◌, ◌≢◌, ◌<◌, ◌≤◌, ℕ, fal
 use Rattle.std.specs.List.{AllByRecursion}
 use Rattle.ec_attr.specs.Geometry.{IsGeometry}
 use Rattle.ec_volfile.specs.Lines.{is_blank}
-use Rattle.ec_volfile.specs.Sections.{Outline}
+use Rattle.ec_volfile.specs.Outline.{Outline}
 use Rattle.ec_volfile.specs.Grammar.{NoneTwice}
 
 -- A volume has as many bricks as its geometry says, all different, a cache of at most 10 stripes, and a window from 1

@@ -1,8 +1,8 @@
 // Printing a volume file.
 ghost use Rattle.std.specs.Prelude.{◌≡◌, ◌++◌, ◌≤◌, ◌^◌, codes, length, IfOk, OnOk};
 ghost use Rattle.ec_volfile.specs.Grammar.{IsVolumeFile};
-ghost use Rattle.ec_volfile.specs.Printed.{ended_line, eager_text, kernel_text, option_line, policy_text, rows_text, spaced, text_of};
-ghost use Rattle.ec_volfile.specs.Sections.{outline};
+ghost use Rattle.ec_volfile.specs.Printed.{ended_line, eager_text, kernel_text, option_line, policy_text, rows_text, spaced_names, text_of};
+ghost use Rattle.ec_volfile.specs.Outline.{outline};
 ghost use Rattle.ec_volfile.specs.Volumes.{HasWords, IsVolume};
 
 use crate::volume::{BlobList, Kernel, Volume};
@@ -66,7 +66,7 @@ fn put_option(text: &mut Blob, key: &[u8], value: &[u8]) -> Result<(), AllocErro
 
 /// Adds the names, each behind a space.
 fn put_names(text: &mut Blob, names: &BlobList) -> Result<(), AllocError>
-    ensures { OnOk result (text.new ≡ text.old ++ spaced names.now) }
+    ensures { OnOk result (text.new ≡ text.old ++ spaced_names names.now) }
 {
     for name in names.items() {
         text.push(b' ')?;
@@ -77,7 +77,7 @@ fn put_names(text: &mut Blob, names: &BlobList) -> Result<(), AllocError>
 
 /// Adds the line of the subvolumes.
 fn put_subvolumes(text: &mut Blob, names: &BlobList) -> Result<(), AllocError>
-    ensures { OnOk result (text.new ≡ text.old ++ ended_line (codes "    subvolumes" ++ spaced names.now)) }
+    ensures { OnOk result (text.new ≡ text.old ++ ended_line (codes "    subvolumes" ++ spaced_names names.now)) }
 {
     text.extend(b"    subvolumes")?;
     put_names(text, names)?;

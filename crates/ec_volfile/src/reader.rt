@@ -2,10 +2,12 @@
 ghost use Rattle.std.specs.Prelude.{ℕ, ◌^◌, ◌≤◌, length, IfOk, IfErr};
 ghost use Rattle.ec_volfile.specs.declared.fault.VolumeFault.{VolumeFault};
 ghost use Rattle.ec_volfile.specs.declared.volume.Volume.{Volume};
-ghost use Rattle.ec_volfile.specs.Faults.{IsFirstFault, IsFirstFaultOr};
+ghost use Rattle.ec_volfile.specs.Faults.{IsFirstFault, IsFirstFaultOrNoMemory};
 ghost use Rattle.ec_volfile.specs.Grammar.{IsVolumeFile};
 ghost use Rattle.ec_volfile.specs.Lines.{lines};
-ghost use Rattle.ec_volfile.specs.Sections.{IsReadAs, Outline, Reads, outcome, outline, run, start};
+ghost use Rattle.ec_volfile.specs.Outline.{Outline, outline};
+ghost use Rattle.ec_volfile.specs.Reading.{IsReadAs, Reads};
+ghost use Rattle.ec_volfile.specs.Sections.{outcome, run, start};
 ghost use Rattle.ec_volfile.specs.Volumes.{HasWords, IsVolume};
 
 use crate::fault::VolumeFault;
@@ -60,7 +62,7 @@ pub fn read(alloc: Global, bytes: &[u8]) -> Result<Volume, (u64, VolumeFault)>
     ensures again { (v : Volume) → IsVolumeFile bytes.now (outline v) → IsReadAs result v }
 
     // What is refused has this fault first. What has a first fault is refused with it, unless memory runs out.
-    ensures fault { IfErr result (λ e. IsFirstFaultOr bytes.now e.0 e.1) }
+    ensures fault { IfErr result (λ e. IsFirstFaultOrNoMemory bytes.now e.0 e.1) }
     ensures first { (n : ℕ) (e : VolumeFault) → IsFirstFault bytes.now n e → Reads result (Err (n, e)) }
 
     // As many different bricks as the geometry says, a cache of at most 10, a window from 1 to 1024.

@@ -1,7 +1,8 @@
 // The lines of one section.
 ghost use Rattle.std.specs.Prelude.{◌≡◌, ◌^◌, ◌≤◌, ◌||◌, ℕ, List, not, length, bytes_eq, IfOk, OnOk, Ok};
 ghost use Rattle.std.specs.Option.{option_copied};
-ghost use Rattle.ec_volfile.specs.Sections.{Gives, is_among, keyword_of, one_word, repeats, subvolumes_of, typed};
+ghost use Rattle.ec_volfile.specs.Reading.{Gives};
+ghost use Rattle.ec_volfile.specs.Sections.{is_among, keyword_of, one_word, repeats, subvolumes_of, section_of_type};
 ghost use Rattle.ec_volfile.specs.Lines.{words};
 
 use crate::fault::VolumeFault;
@@ -126,7 +127,8 @@ fn repeats(alloc: Global, args: &[u8]) -> Result<bool, AllocError>
 
 impl OpenSection {
     ghost use Rattle.std.specs.Prelude.{◌≡◌, ◌^◌, ◌≤◌, length, Ok};
-    ghost use Rattle.ec_volfile.specs.Sections.{Gives, head, item, named, new_section, option, subvolumes, typed};
+    ghost use Rattle.ec_volfile.specs.Reading.{Gives};
+    ghost use Rattle.ec_volfile.specs.Sections.{head, item, set_named, new_section, option, subvolumes, section_of_type};
 
     /// The section with this name and type.
     fn new(name: Blob, disperse: bool) -> OpenSection
@@ -141,7 +143,7 @@ impl OpenSection {
     }
 
     /// The section that the line `type T` begins. The flag says whether a section has the type `cluster/disperse`.
-    pub fn typed(
+    pub fn of_type(
         name: Blob,
         seen: bool,
         keyword: Keyword,

@@ -1,6 +1,8 @@
 // What stands after the first lines of a file.
 ghost use Rattle.std.specs.Prelude.{◌≡◌, true, false, IfOk, IfErr, if◌then◌else◌};
-ghost use Rattle.ec_volfile.specs.Sections.{Gives, outside, is_geometry, outline, volume_of};
+ghost use Rattle.ec_volfile.specs.Outline.{outline};
+ghost use Rattle.ec_volfile.specs.Reading.{Gives};
+ghost use Rattle.ec_volfile.specs.Sections.{outside, is_geometry, volume_of};
 
 use crate::fault::VolumeFault;
 use crate::lines::{skip_blanks, split_word};
@@ -34,7 +36,7 @@ pub(crate) struct State {
 }
 
 /// The section that the line `volume NAME` begins.
-fn begun(alloc: Global, keyword: Keyword, args: &[u8]) -> Result<Place, VolumeFault>
+fn head_of(alloc: Global, keyword: Keyword, args: &[u8]) -> Result<Place, VolumeFault>
     ensures { Gives (λ p. p) result (outside keyword args.now) }
 {
     if keyword != Keyword::Volume {
@@ -92,7 +94,9 @@ fn volume_of(alloc: Global, section: OpenSection) -> Result<Volume, VolumeFault>
 
 impl State {
     ghost use Rattle.std.specs.Prelude.{◌≡◌, ◌^◌, ◌≤◌, length};
-    ghost use Rattle.ec_volfile.specs.Sections.{Gives, at_place, finish, front_of, outline, start, step};
+    ghost use Rattle.ec_volfile.specs.Outline.{outline};
+    ghost use Rattle.ec_volfile.specs.Reading.{Gives};
+    ghost use Rattle.ec_volfile.specs.Sections.{at_place, finish, front_of, start, step};
 
     /// Before the first line.
     pub fn start() -> State
@@ -131,7 +135,7 @@ impl State {
         } = self;
         match place {
             Place::Outside => {
-                let place = begun(alloc, keyword, args)?;
+                let place = head_of(alloc, keyword, args)?;
                 Ok(State {
                     place,
                     disperse,
@@ -139,7 +143,7 @@ impl State {
                 })
             }
             Place::Head(name) => {
-                let section = OpenSection::typed(name, disperse, keyword, args)?;
+                let section = OpenSection::of_type(name, disperse, keyword, args)?;
                 let disperse = disperse || section.disperse;
                 Ok(State {
                     place: Place::Body(section),

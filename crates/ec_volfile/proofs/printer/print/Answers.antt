@@ -1,5 +1,5 @@
 use Rattle.std.proofs.lemmas.Result.{IfOk-weaker}
-use Rattle.ec_volfile.specs.Sections.{outline}
+use Rattle.ec_volfile.specs.Outline.{outline}
 use Rattle.ec_volfile.proofs.PrintLaws.{text-means}
 use Rattle.ec_volfile.proofs.printer.print.Goals as goal
 

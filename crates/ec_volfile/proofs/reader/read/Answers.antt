@@ -1,7 +1,7 @@
 use Rattle.ec_volfile.proofs.GrammarLaws.{grammar-outcome}
 use Rattle.ec_volfile.proofs.FaultLaws.{fault-outcome}
 use Rattle.ec_volfile.proofs.FileLaws.{reads-again}
-use Rattle.ec_volfile.specs.Sections.{outline}
+use Rattle.ec_volfile.specs.Outline.{outline}
 use Rattle.ec_volfile.proofs.ReadLaws.{reads-found, reads-fault, reads-volume, reads-words, reads-same}
 use Rattle.ec_volfile.proofs.reader.read.Goals as goal
 

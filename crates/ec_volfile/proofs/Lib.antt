@@ -1,0 +1,17 @@
+pub mod Bodies
+pub mod Decimals
+pub mod FaultLaws
+pub mod FileLaws
+pub mod GrammarLaws
+pub mod Items
+pub mod Keys
+pub mod LineLaws
+pub mod LineLemmas
+pub mod Meanings
+pub mod Names
+pub mod PrintLaws
+pub mod PrintLemmas
+pub mod ReadLaws
+pub mod Shapes
+pub mod StatementLaws
+pub mod WordLemmas

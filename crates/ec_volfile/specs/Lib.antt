@@ -1,0 +1,12 @@
+pub mod Faults
+pub mod Grammar
+pub mod Laws
+pub mod Lines
+pub mod Numbers
+pub mod Options
+pub mod Outline
+pub mod Printed
+pub mod Reading
+pub mod Sections
+pub mod Statements
+pub mod Volumes

@@ -12,7 +12,7 @@ use Rattle.ec_field.proofs.Linear.{bit_times-linear}
 use Rattle.ec_field.proofs.Tables.{agree_at}
 use Rattle.ec_field.proofs.Bits.{bit_of_sum, bits_lt}
 use Rattle.ec_bitslice.specs.declared.column.Column.{Column}
-use Rattle.ec_bitslice.specs.Column.{plane, lane_element, HasColumn, StoresLanes, StoresColumn}
+use Rattle.ec_bitslice.specs.Column.{plane, lane_element, HasElements, StoresLanes, StoresColumn}
 
 -- what holds of each number below eight
 pub below_eight : (P : ℕ → Type 0) → P 0 → P 1 → P 2 → P 3 → P 4 → P 5 → P 6 → P 7 → (i : ℕ) → i < 8 → P i
@@ -109,7 +109,7 @@ pub record HasBytes (c : Column) (chunk : List ℕ) (at : ℕ) : Type 0 where
 place : (at i e : ℕ) → at ≤ e / 8 → 64 * i + at + (e / 8 - at) ≡ 64 * i + e / 8
 place at i e h = omega arith
 
-pub column_elements : (c : Column) (chunk : List ℕ) (at : ℕ) → HasBytes c chunk at → HasColumn c chunk at
+pub column_elements : (c : Column) (chunk : List ℕ) (at : ℕ) → HasBytes c chunk at → HasElements c at (element chunk)
 unfolding lane_element element
 column_elements c chunk at b = record {
   each = λ e from to.
@@ -126,7 +126,7 @@ pub loaded : (c : Column) (chunk : List ℕ) (at : ℕ)
     → ((x : ℕ) → x < 16 → get_or c.p5 x 0 ≡ get_or chunk (320 + at + x) 0)
     → ((x : ℕ) → x < 16 → get_or c.p6 x 0 ≡ get_or chunk (384 + at + x) 0)
     → ((x : ℕ) → x < 16 → get_or c.p7 x 0 ≡ get_or chunk (448 + at + x) 0)
-    → HasColumn c chunk at
+    → HasElements c at (element chunk)
 loaded c chunk at e0 e1 e2 e3 e4 e5 e6 e7 =
     column_elements c chunk at (record {
       each = below_eight (λ i. (x : ℕ) → x < 16 → get_or (plane c i) x 0 ≡ get_or chunk (64 * i + at + x) 0)

@@ -12,9 +12,9 @@ plane c i = slice_index_or (c.p0 ∷ c.p1 ∷ c.p2 ∷ c.p3 ∷ c.p4 ∷ c.p5 �
 unfoldable pub lane_element : Column → ℕ → ℕ → ℕ
 lane_element c x k = byte_of (λ i. bit_at (slice_index (plane c i) x) k)
 
--- The column has the elements of a chunk from byte `at` of each plane on.
-pub record HasColumn (c : Column) (chunk : List ℕ) (at : ℕ) : Type 0 where
-  pub each : (e : ℕ) → at ≤ e / 8 → e / 8 < at + 16 → lane_element c (e / 8 - at) (e % 8) ≡ element chunk e
+-- The elements of a column that begins at byte `at` of each plane are f e, for each element e of the chunk that it has.
+pub record HasElements (c : Column) (at : ℕ) (f : ℕ → ℕ) : Type 0 where
+  pub each : (e : ℕ) → at ≤ e / 8 → e / 8 < at + 16 → lane_element c (e / 8 - at) (e % 8) ≡ f e
 
 -- The lanes are written from `at` on, and all else stays.
 pub record StoresLanes (lanes : List ℕ) (at : ℕ) (old new : List ℕ) : Type 0 where

@@ -3,7 +3,7 @@
 ghost use Rattle.std.specs.Prelude.{◌≡◌, ℕ, ◌+◌, ◌*◌, ◌<◌, ◌≤◌, length, slice_index, bit_xor};
 ghost use Rattle.ec_field.specs.Field.{product};
 ghost use Rattle.ec_field.specs.Chunk.{element};
-ghost use Rattle.ec_bitslice.specs.Column.{lane_element, HasColumn, StoresColumn, StoresLanes};
+ghost use Rattle.ec_bitslice.specs.Column.{lane_element, HasElements, StoresColumn, StoresLanes};
 
 use ec_field::Chunk;
 use std::simd::prelude::*;
@@ -25,7 +25,7 @@ pub(crate) struct Column {
 }
 
 #[inline(always)]
-fn load(bytes: &[u8], at: usize) -> u8x16
+fn load_lanes(bytes: &[u8], at: usize) -> u8x16
     requires { at + 16 ≤ length bytes.now }
     ensures { (x : ℕ) → x < 16 → slice_index result x ≡ slice_index bytes.now (at + x) }
 {
@@ -33,7 +33,7 @@ fn load(bytes: &[u8], at: usize) -> u8x16
 }
 
 #[inline(always)]
-fn store(lanes: u8x16, at: usize, bytes: &mut [u8])
+fn store_lanes(lanes: u8x16, at: usize, bytes: &mut [u8])
     requires { at + 16 ≤ length bytes.old }
     ensures { StoresLanes lanes at bytes.old bytes.new }
 {
@@ -78,17 +78,17 @@ impl Column {
     pub(crate) fn load(bytes: &[u8], at: usize) -> Column
         requires chunk { length bytes.now ≡ 512 }
         requires room { at + 16 ≤ 64 }
-        ensures { HasColumn result bytes.now at }
+        ensures { HasElements result at (element bytes.now) }
     {
         Column {
-            p0: load(bytes, at),
-            p1: load(bytes, 64 + at),
-            p2: load(bytes, 128 + at),
-            p3: load(bytes, 192 + at),
-            p4: load(bytes, 256 + at),
-            p5: load(bytes, 320 + at),
-            p6: load(bytes, 384 + at),
-            p7: load(bytes, 448 + at),
+            p0: load_lanes(bytes, at),
+            p1: load_lanes(bytes, 64 + at),
+            p2: load_lanes(bytes, 128 + at),
+            p3: load_lanes(bytes, 192 + at),
+            p4: load_lanes(bytes, 256 + at),
+            p5: load_lanes(bytes, 320 + at),
+            p6: load_lanes(bytes, 384 + at),
+            p7: load_lanes(bytes, 448 + at),
         }
     }
 
@@ -134,13 +134,13 @@ impl Column {
         requires room { at + 16 ≤ 64 }
         ensures { StoresColumn self at bytes.old bytes.new }
     {
-        store(self.p0, at, bytes);
-        store(self.p1, 64 + at, bytes);
-        store(self.p2, 128 + at, bytes);
-        store(self.p3, 192 + at, bytes);
-        store(self.p4, 256 + at, bytes);
-        store(self.p5, 320 + at, bytes);
-        store(self.p6, 384 + at, bytes);
-        store(self.p7, 448 + at, bytes);
+        store_lanes(self.p0, at, bytes);
+        store_lanes(self.p1, 64 + at, bytes);
+        store_lanes(self.p2, 128 + at, bytes);
+        store_lanes(self.p3, 192 + at, bytes);
+        store_lanes(self.p4, 256 + at, bytes);
+        store_lanes(self.p5, 320 + at, bytes);
+        store_lanes(self.p6, 384 + at, bytes);
+        store_lanes(self.p7, 448 + at, bytes);
     }
 }

@@ -1,0 +1,17 @@
+use Rattle.std.proofs.Common.{◌≡◌, ℕ, ◌+◌, ◌*◌, ◌^◌, ◌<◌, ◌≤◌, length, slice_index, bit_xor, ◌-◌, ◌/◌, ◌%◌, List, slice_index_or, bit_and, arith}
+use Rattle.std.specs.Int.{bit_at}
+use Rattle.ec_field.specs.Field.{sum_below, product}
+use Rattle.ec_field.specs.Chunk.{element}
+use Rattle.ec_field.specs.Code.{combined_element, chunk_at}
+use Rattle.ec_bitslice.specs.Column.{HasElements, StoresColumn, lane_element}
+use Rattle.ec_bitslice.specs.Group.{bit_sum, horner}
+use Rattle.ec_bitslice.proofs.group.Group.put.Goals as goal
+
+pub returns : goal.returns
+returns c = ?
+
+pub loop-column-preserved : goal.loop-column-preserved
+loop-column-preserved c = ?
+
+pub loop-column-init : goal.loop-column-init
+loop-column-init c = ?

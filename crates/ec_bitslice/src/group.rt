@@ -1,0 +1,128 @@
+// Up to four chunks with their coefficients, whose sum shares its doublings.
+ghost use Rattle.std.specs.Int.{bit_at};
+ghost use Rattle.std.specs.Prelude.{◌≡◌, ℕ, ◌+◌, ◌*◌, ◌^◌, ◌<◌, ◌≤◌, length, slice_index, bit_xor};
+ghost use Rattle.ec_field.specs.Chunk.{element};
+ghost use Rattle.ec_field.specs.Code.{combined_element, chunk_at};
+ghost use Rattle.ec_bitslice.specs.Column.{HasElements};
+ghost use Rattle.ec_bitslice.specs.Group.{bit_sum, horner};
+
+use crate::column::{Column, LANES};
+use ec_field::Chunk;
+
+/// Up to four chunks, the first of `chunks`, with a coefficient for each. Where there are fewer, the other
+/// coefficients are 0. Four keep their coefficients in registers.
+pub(crate) struct Group<'a> {
+    coefficients: [u8; 4],
+    /// The largest coefficient.
+    largest: u8,
+    chunks: &'a [Chunk],
+    ghost bounded: { (j : ℕ) → slice_index coefficients j ≤ largest },
+    ghost present: { (j : ℕ) → length chunks.now ≤ j → slice_index coefficients j ≡ 0 },
+}
+
+#[inline(always)]
+fn at_or_zero(xs: &[u8], i: usize) -> u8
+    ensures { result ≡ slice_index xs.now i }
+{
+    if i < xs.len() { xs[i] } else { 0 }
+}
+
+impl<'a> Group<'a> {
+    #[inline(always)]
+    pub(crate) fn new(coeffs: &[u8], chunks: &'a [Chunk]) -> Group<'a>
+        requires { length coeffs.now ≡ length chunks.now }
+        ensures coefficients { (j : ℕ) → j < 4 → slice_index result.coefficients j ≡ slice_index coeffs.now j }
+        ensures chunks { result.chunks.now ≡ chunks.now }
+    {
+        let a = at_or_zero(coeffs, 0);
+        let b = at_or_zero(coeffs, 1);
+        let c = at_or_zero(coeffs, 2);
+        let d = at_or_zero(coeffs, 3);
+        Group {
+            coefficients: [a, b, c, d],
+            largest: a.max(b).max(c.max(d)),
+            chunks,
+        }
+    }
+
+    /// Adds chunk j where bit i of its coefficient is set.
+    #[inline(always)]
+    fn plus_if(&self, sum: Column, j: usize, i: u32, at: usize) -> Column
+        requires chunk { j < 4 }
+        requires bit { i < 8 }
+        requires room { at + 16 ≤ 64 }
+        ensures { (f : ℕ → ℕ) → HasElements sum at f → HasElements result at (λ e. bit_xor (f e) (bit_at (slice_index self.now.coefficients j) i * element (chunk_at self.now.chunks.now j) e)) }
+    {
+        if self.coefficients[j] >> i & 1 == 1 {
+            sum.plus(Column::load(self.chunks[j].bytes(), at))
+        } else {
+            sum
+        }
+    }
+
+    /// Adds each chunk whose coefficient has bit i.
+    #[inline(always)]
+    fn plus_bit(&self, sum: Column, i: u32, at: usize) -> Column
+        requires bit { i < 8 }
+        requires room { at + 16 ≤ 64 }
+        ensures { (f : ℕ → ℕ) → HasElements sum at f → HasElements result at (λ e. bit_xor (f e) (bit_sum self.now.coefficients self.now.chunks.now i e)) }
+    {
+        let sum = self.plus_if(sum, 0, i, at);
+        let sum = self.plus_if(sum, 1, i, at);
+        let sum = self.plus_if(sum, 2, i, at);
+        self.plus_if(sum, 3, i, at)
+    }
+
+    /// A step of Horner's rule, from the bits above i to those from i on.
+    #[inline(always)]
+    fn step(&self, sum: Column, i: u32, at: usize) -> Column
+        requires bit { i < 8 }
+        requires room { at + 16 ≤ 64 }
+        requires above { HasElements sum at (horner self.now.coefficients self.now.chunks.now (i + 1)) }
+        ensures { HasElements result at (horner self.now.coefficients self.now.chunks.now i) }
+    {
+        if self.largest >> i == 0 {
+            sum
+        } else {
+            self.plus_bit(sum.doubled(), i, at)
+        }
+    }
+
+    /// The sum of the products of a column, from the highest bit of the coefficients down.
+    #[inline(always)]
+    fn combined(&self, at: usize) -> Column
+        requires { at + 16 ≤ 64 }
+        ensures { HasElements result at (horner self.now.coefficients self.now.chunks.now 0) }
+    {
+        let sum = self.step(Column::zero(), 7, at);
+        let sum = self.step(sum, 6, at);
+        let sum = self.step(sum, 5, at);
+        let sum = self.step(sum, 4, at);
+        let sum = self.step(sum, 3, at);
+        let sum = self.step(sum, 2, at);
+        let sum = self.step(sum, 1, at);
+        self.step(sum, 0, at)
+    }
+
+    /// Writes the sum of the products.
+    pub(crate) fn put(&self, out: &mut [u8])
+        requires { length out.old ≡ 512 }
+        ensures { (e : ℕ) → e < 512 → element out.new e ≡ horner self.now.coefficients self.now.chunks.now 0 e }
+    {
+        for column in 0..4usize {
+            let at = LANES * column;
+            self.combined(at).store(at, out);
+        }
+    }
+
+    /// Adds the sum of the products.
+    pub(crate) fn add(&self, sum: &mut [u8])
+        requires { length sum.old ≡ 512 }
+        ensures { (e : ℕ) → e < 512 → element sum.new e ≡ bit_xor (element sum.old e) (horner self.now.coefficients self.now.chunks.now 0 e) }
+    {
+        for column in 0..4usize {
+            let at = LANES * column;
+            self.combined(at).plus(Column::load(sum, at)).store(at, sum);
+        }
+    }
+}

@@ -1,2 +1,4 @@
 pub mod Lanes
 pub mod Columns
+pub mod Horner
+pub mod Sums

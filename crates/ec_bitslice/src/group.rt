@@ -9,13 +9,18 @@ ghost use Rattle.ec_bitslice.specs.Group.{bit_sum, horner};
 use crate::column::{Column, LANES};
 use ec_field::Chunk;
 
+/// The chunks of a group.
+pub(crate) const FOUR: usize = 4;
+
 /// Up to four chunks, the first of `chunks`, with a coefficient for each. Where there are fewer, the other
 /// coefficients are 0. Four keep their coefficients in registers.
+#[derive(Drop)]
 pub(crate) struct Group<'a> {
-    coefficients: [u8; 4],
+    coefficients: [u8; FOUR],
     /// The largest coefficient.
     largest: u8,
     chunks: &'a [Chunk],
+    ghost byte: { largest < 2 ^ 8 },
     ghost bounded: { (j : ℕ) → slice_index coefficients j ≤ largest },
     ghost present: { (j : ℕ) → length chunks.now ≤ j → slice_index coefficients j ≡ 0 },
 }

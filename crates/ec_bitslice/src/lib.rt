@@ -7,6 +7,9 @@
 
 mod column;
 mod group;
+mod kernels;
+
+pub use kernels::{dot, mul_const, muladd};
 
 
 

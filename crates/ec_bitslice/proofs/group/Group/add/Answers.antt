@@ -1,17 +1,30 @@
-use Rattle.std.proofs.Common.{◌≡◌, ℕ, ◌+◌, ◌*◌, ◌^◌, ◌<◌, ◌≤◌, length, slice_index, bit_xor, ◌-◌, ◌/◌, ◌%◌, List, slice_index_or, bit_and, arith}
-use Rattle.std.specs.Int.{bit_at}
-use Rattle.ec_field.specs.Field.{sum_below, product}
+use Rattle.std.proofs.Common.{◌≡◌, ℕ, ◌+◌, ◌-◌, ◌*◌, ◌/◌, ◌%◌, ◌<◌, ◌≤◌, arith, inl, inr, ap, ap₂, sym, ◌∙◌, refl}
+use Rattle.std.proofs.lemmas.Bool.{cases_lt}
+use Rattle.std.specs.Prelude.{bit_xor}
+use Rattle.ec_bitslice.proofs.Horner.{added}
 use Rattle.ec_field.specs.Chunk.{element}
-use Rattle.ec_field.specs.Code.{combined_element, chunk_at}
-use Rattle.ec_bitslice.specs.Column.{HasElements, StoresColumn, lane_element}
-use Rattle.ec_bitslice.specs.Group.{bit_sum, horner}
+use Rattle.ec_bitslice.specs.Group.{horner}
 use Rattle.ec_bitslice.proofs.group.Group.add.Goals as goal
 
 pub returns : goal.returns
-returns c = ?
-
-pub loop-column-preserved : goal.loop-column-preserved
-loop-column-preserved c = ?
+returns c = λ e h. c.loop-column.invariant.done e (omega arith)
 
 pub loop-column-init : goal.loop-column-init
-loop-column-init c = ?
+loop-column-init c = record { done = λ e h. absurd (omega arith); left = λ e h l. refl }
+
+pub loop-column-preserved : goal.loop-column-preserved
+loop-column-preserved c = 
+    let column = c.loop-column.column in
+    record {
+      done = λ e h.
+        elim (cases_lt (e / 8) (16 * column)) [
+          inl before ↦ c.store.ensures.below e before ∙ c.loop-column.invariant.done e before
+        | inr here ↦
+            let to : e / 8 < 16 * column + 16 = omega arith in
+            added _ _ _ _ _
+              (c.store.ensures.within e here to ∙ c.plus.ensures (e / 8 - 16 * column) (e % 8))
+              (c.combined.ensures.each e here to)
+              (c.load.ensures.each e here to ∙ c.loop-column.invariant.left e here (omega arith))
+        ];
+      left = λ e from to. c.store.ensures.above e (omega arith) to ∙ c.loop-column.invariant.left e (omega arith) to;
+    }

@@ -1,11 +1,8 @@
-use Rattle.std.proofs.Common.{◌≡◌, ℕ, ◌+◌, ◌*◌, ◌^◌, ◌<◌, ◌≤◌, length, slice_index, bit_xor, ◌-◌, ◌/◌, ◌%◌, List, slice_index_or, bit_and, arith}
-use Rattle.std.specs.Int.{bit_at}
-use Rattle.ec_field.specs.Field.{sum_below, product}
-use Rattle.ec_field.specs.Chunk.{element}
-use Rattle.ec_field.specs.Code.{combined_element, chunk_at}
-use Rattle.ec_bitslice.specs.Column.{HasElements, StoresColumn, lane_element}
-use Rattle.ec_bitslice.specs.Group.{bit_sum, horner}
+use Rattle.ec_bitslice.proofs.Horner.{plus_four}
 use Rattle.ec_bitslice.proofs.group.Group.plus_bit.Goals as goal
 
 pub returns : goal.returns
-returns c = ?
+returns c = λ f h.
+    let group = c.args.self.now in
+    plus_four c.plus_if.result c.args.at group.coefficients group.chunks.now c.args.i f
+      (c.plus_if.ensures _ (c.plus_if-sum-3.ensures _ (c.plus_if-sum-2.ensures _ (c.plus_if-sum.ensures f h))))

@@ -6,7 +6,7 @@ use Rattle.std.proofs.lemmas.Bool.{cases_lt}
 use Rattle.std.proofs.Math.Nat.{zero-mul}
 use Rattle.std.proofs.lemmas.Nat.Bits.{bit_at-lt, bit_at-zero, bit_at_xor}
 use Rattle.ec_field.specs.Field.{sum_below, product, reduced, IsByte}
-use Rattle.ec_field.specs.Chunk.{byte_of, element, element_bit}
+use Rattle.ec_field.specs.Chunk.{byte_of, element, element_bit, IsChunk}
 use Rattle.ec_field.proofs.Sums.{sum_ext, sum_xor, sum_zeros}
 use Rattle.ec_field.proofs.Linear.{bit_times-linear}
 use Rattle.ec_field.proofs.Tables.{agree_at}
@@ -117,7 +117,7 @@ column_elements c chunk at b = record {
       (λ i h. ap (λ v. bit_at v (e % 8)) (b.each i h (e / 8 - at) (omega arith) ∙ ap (λ n. get_or chunk n 0) (place at i e from)))
 }
 
-pub loaded : (c : Column) (chunk : List ℕ) (at : ℕ)
+pub loaded : (c : Column) (chunk other : List ℕ) (at : ℕ) → chunk ≡ other
     → ((x : ℕ) → x < 16 → get_or c.p0 x 0 ≡ get_or chunk (at + x) 0)
     → ((x : ℕ) → x < 16 → get_or c.p1 x 0 ≡ get_or chunk (64 + at + x) 0)
     → ((x : ℕ) → x < 16 → get_or c.p2 x 0 ≡ get_or chunk (128 + at + x) 0)
@@ -126,12 +126,12 @@ pub loaded : (c : Column) (chunk : List ℕ) (at : ℕ)
     → ((x : ℕ) → x < 16 → get_or c.p5 x 0 ≡ get_or chunk (320 + at + x) 0)
     → ((x : ℕ) → x < 16 → get_or c.p6 x 0 ≡ get_or chunk (384 + at + x) 0)
     → ((x : ℕ) → x < 16 → get_or c.p7 x 0 ≡ get_or chunk (448 + at + x) 0)
-    → HasElements c at (element chunk)
-loaded c chunk at e0 e1 e2 e3 e4 e5 e6 e7 =
-    column_elements c chunk at (record {
+    → HasElements c at (element other)
+loaded c chunk other at is e0 e1 e2 e3 e4 e5 e6 e7 =
+    subst (λ (xs : List ℕ). HasElements c at (element xs)) is (column_elements c chunk at (record {
       each = below_eight (λ i. (x : ℕ) → x < 16 → get_or (plane c i) x 0 ≡ get_or chunk (64 * i + at + x) 0)
         (λ x h. rw (zero-add at) (e0 x h)) e1 e2 e3 e4 e5 e6 e7
-    })
+    }))
 
 -- The first j planes of a column are written, and what lies in other columns stays.
 pub record StoresPlanes (j : ℕ) (c : Column) (at : ℕ) (old new : List ℕ) : Type 0 where
@@ -175,10 +175,11 @@ unfolding element
 same_element old new e same =
     byte_of-ext (element_bit new e) (element_bit old e) (λ i h. ap (λ v. bit_at v (e % 8)) (same i h))
 
-pub stores_column : (c : Column) (at : ℕ) (old new : List ℕ) → at + 16 ≤ 64 → StoresPlanes 8 c at old new → StoresColumn c at old new
-stores_column c at old new room s = record {
+pub stores_column : (c : Column) (at : ℕ) (old new : List ℕ) → at + 16 ≤ 64 → IsChunk new → StoresPlanes 8 c at old new → StoresColumn c at old new
+stores_column c at old new room chunk s = record {
   len = s.len;
   within = λ e from to. sym ((column_elements c new at (record { each = λ i h x k. sym (s.within i h x k) })).each e from to);
   below = λ e h. same_element old new e (λ i l. s.below (64 * i + e / 8) (omega arith));
   above = λ e from to. same_element old new e (λ i l. s.above (64 * i + e / 8) (omega arith));
+  chunk = chunk;
 }

@@ -1,7 +1,7 @@
 -- Columns of a chunk, 16 bytes of each plane, and their elements.
 use Rattle.std.specs.Prelude.{◌≡◌, ℕ, ◌+◌, ◌-◌, ◌*◌, ◌/◌, ◌%◌, ◌<◌, ◌≤◌, List, [], ◌∷◌, length, slice_index, slice_index_or}
 use Rattle.std.specs.Int.{bit_at}
-use Rattle.ec_field.specs.Chunk.{byte_of, element}
+use Rattle.ec_field.specs.Chunk.{byte_of, element, IsChunk}
 use Rattle.ec_bitslice.specs.declared.column.Column.{Column}
 
 -- plane i of a column
@@ -22,6 +22,7 @@ pub record StoresLanes (lanes : List ℕ) (at : ℕ) (old new : List ℕ) : Type
   pub within : (x : ℕ) → x < 16 → slice_index new (at + x) ≡ slice_index lanes x
   pub below : (n : ℕ) → n < at → slice_index new n ≡ slice_index old n
   pub above : (n : ℕ) → at + 16 ≤ n → slice_index new n ≡ slice_index old n
+  pub chunk : IsChunk new
 
 -- The elements of the column are written from byte `at` of each plane on, and all other elements stay.
 pub record StoresColumn (c : Column) (at : ℕ) (old new : List ℕ) : Type 0 where
@@ -29,3 +30,4 @@ pub record StoresColumn (c : Column) (at : ℕ) (old new : List ℕ) : Type 0 wh
   pub within : (e : ℕ) → at ≤ e / 8 → e / 8 < at + 16 → element new e ≡ lane_element c (e / 8 - at) (e % 8)
   pub below : (e : ℕ) → e / 8 < at → element new e ≡ element old e
   pub above : (e : ℕ) → at + 16 ≤ e / 8 → e / 8 < 64 → element new e ≡ element old e
+  pub chunk : IsChunk new

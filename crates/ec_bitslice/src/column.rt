@@ -1,6 +1,6 @@
 // A column of a chunk: 16 bytes of each of its 8 planes, which are 128 elements. The eight vectors fit the registers,
 // where those of whole planes of 64 bytes would not.
-ghost use Rattle.std.specs.Prelude.{◌≡◌, ℕ, ◌+◌, ◌*◌, ◌<◌, ◌≤◌, length, slice_index, bit_xor};
+ghost use Rattle.std.specs.Prelude.{◌≡◌, ℕ, ◌+◌, ◌*◌, ◌/◌, ◌<◌, ◌≤◌, length, slice_index, bit_xor, IsTrue};
 ghost use Rattle.ec_field.specs.Field.{product};
 ghost use Rattle.ec_field.specs.Chunk.{element};
 ghost use Rattle.ec_bitslice.specs.Column.{lane_element, HasElements, StoresColumn, StoresLanes};
@@ -10,6 +10,9 @@ use std::simd::prelude::*;
 
 /// The bytes of a plane in a column.
 pub(crate) const LANES: usize = 16;
+
+/// The columns of a chunk.
+pub(crate) const COLUMNS: usize = 4;
 
 /// Plane i of a column is `p` with the number i.
 #[derive(Clone, Copy)]
@@ -33,11 +36,11 @@ fn load_lanes(bytes: &[u8], at: usize) -> u8x16
 }
 
 #[inline(always)]
-fn store_lanes(lanes: u8x16, at: usize, bytes: &mut [u8])
-    requires { at + 16 ≤ length bytes.old }
-    ensures { StoresLanes lanes at bytes.old bytes.new }
+fn store_lanes(lanes: u8x16, at: usize, chunk: &mut Chunk)
+    requires { at + 16 ≤ 512 }
+    ensures { StoresLanes lanes at chunk.old chunk.new }
 {
-    lanes.copy_to_slice(&mut bytes[at..]);
+    chunk.store(at, lanes);
 }
 
 #[inline(always)]
@@ -75,11 +78,11 @@ impl Column {
 
     /// The column of a chunk that begins at byte `at` of each plane.
     #[inline(always)]
-    pub(crate) fn load(bytes: &[u8], at: usize) -> Column
-        requires chunk { length bytes.now ≡ 512 }
-        requires room { at + 16 ≤ 64 }
-        ensures { HasElements result at (element bytes.now) }
+    pub(crate) fn load(chunk: &Chunk, at: usize) -> Column
+        requires { at + 16 ≤ 64 }
+        ensures { HasElements result at (element chunk.now) }
     {
+        let bytes = chunk.bytes();
         Column {
             p0: load_lanes(bytes, at),
             p1: load_lanes(bytes, 64 + at),
@@ -109,6 +112,20 @@ impl Column {
         }
     }
 
+    /// The sum of each element and that of `sum`, which is 0 and is not read where it is the first.
+    #[inline(always)]
+    pub(crate) fn added_to(self, is_first: bool, sum: &Chunk, at: usize) -> Column
+        requires room { at + 16 ≤ 64 }
+        requires first { IsTrue is_first → (e : ℕ) → at ≤ e / 8 → e / 8 < at + 16 → element sum.now e ≡ 0 }
+        ensures { (f : ℕ → ℕ) → HasElements self at f → HasElements result at (λ e. bit_xor (element sum.now e) (f e)) }
+    {
+        if is_first {
+            self
+        } else {
+            self.plus(Column::load(sum, at))
+        }
+    }
+
     /// Each element times 2: each plane moves up by one, and the top plane comes back in as the lower terms of the
     /// modulus, x^4+x^3+x^2+1.
     #[inline(always)]
@@ -129,18 +146,17 @@ impl Column {
 
     /// Writes the column to byte `at` of each plane.
     #[inline(always)]
-    pub(crate) fn store(self, at: usize, bytes: &mut [u8])
-        requires chunk { length bytes.old ≡ 512 }
-        requires room { at + 16 ≤ 64 }
-        ensures { StoresColumn self at bytes.old bytes.new }
+    pub(crate) fn store(self, at: usize, chunk: &mut Chunk)
+        requires { at + 16 ≤ 64 }
+        ensures { StoresColumn self at chunk.old chunk.new }
     {
-        store_lanes(self.p0, at, bytes);
-        store_lanes(self.p1, 64 + at, bytes);
-        store_lanes(self.p2, 128 + at, bytes);
-        store_lanes(self.p3, 192 + at, bytes);
-        store_lanes(self.p4, 256 + at, bytes);
-        store_lanes(self.p5, 320 + at, bytes);
-        store_lanes(self.p6, 384 + at, bytes);
-        store_lanes(self.p7, 448 + at, bytes);
+        store_lanes(self.p0, at, chunk);
+        store_lanes(self.p1, 64 + at, chunk);
+        store_lanes(self.p2, 128 + at, chunk);
+        store_lanes(self.p3, 192 + at, chunk);
+        store_lanes(self.p4, 256 + at, chunk);
+        store_lanes(self.p5, 320 + at, chunk);
+        store_lanes(self.p6, 384 + at, chunk);
+        store_lanes(self.p7, 448 + at, chunk);
     }
 }

@@ -13,9 +13,9 @@ pub fn mul_const(a: u8, c: &Chunk) -> Chunk
     ensures product { (e : ℕ) → e < 512 → element result e ≡ product a (element c.now e) }
     ensures chunk { IsChunk result }
 {
-    let mut out = [0; 512];
-    Group::new(&[a], slice::from_ref(c)).put(&mut out);
-    Chunk::from_array(out)
+    let mut product = Chunk::zero();
+    Group::new(&[a], slice::from_ref(c)).add(true, &mut product);
+    product
 }
 
 /// Adds every element of `c`, times `a`, to that of `acc`.
@@ -23,10 +23,7 @@ pub fn muladd(a: u8, c: &Chunk, acc: &mut Chunk)
     ensures sum { (e : ℕ) → e < 512 → element acc.new e ≡ bit_xor (element acc.old e) (product a (element c.now e)) }
     ensures chunk { IsChunk acc.new }
 {
-    let mut out = [0; 512];
-    out.copy_from_slice(acc.bytes());
-    Group::new(&[a], slice::from_ref(c)).add(&mut out);
-    *acc = Chunk::from_array(out);
+    Group::new(&[a], slice::from_ref(c)).add(false, acc);
 }
 
 /// The sum of the chunks, each times its coefficient. The chunks share their doublings, four by four.
@@ -35,11 +32,10 @@ pub fn dot(coeffs: &[u8], chunks: &[Chunk]) -> Chunk
     ensures sum { (e : ℕ) → e < 512 → element result e ≡ combined_element (length coeffs.now) (λ j. slice_index coeffs.now j) chunks.now e }
     ensures chunk { IsChunk result }
 {
-    let mut out = [0; 512];
-    Group::new(coeffs, chunks).put(&mut out);
-    for four in 1..coeffs.len().div_ceil(FOUR) {
+    let mut sum = Chunk::zero();
+    for four in 0..coeffs.len().div_ceil(FOUR) {
         let from = FOUR * four;
-        Group::new(&coeffs[from..], &chunks[from..]).add(&mut out);
+        Group::new(&coeffs[from..], &chunks[from..]).add(four == 0, &mut sum);
     }
-    Chunk::from_array(out)
+    sum
 }

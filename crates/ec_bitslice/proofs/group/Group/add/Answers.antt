@@ -1,19 +1,21 @@
 use Rattle.std.proofs.Common.{◌≡◌, ℕ, ◌+◌, ◌-◌, ◌*◌, ◌/◌, ◌%◌, ◌<◌, ◌≤◌, arith, inl, inr, ap, ap₂, sym, ◌∙◌, refl}
 use Rattle.std.proofs.lemmas.Bool.{cases_lt}
 use Rattle.std.specs.Prelude.{bit_xor}
-use Rattle.ec_bitslice.proofs.Horner.{added}
 use Rattle.ec_field.specs.Chunk.{element}
 use Rattle.ec_bitslice.specs.Group.{horner}
 use Rattle.ec_bitslice.proofs.group.Group.add.Goals as goal
 
-pub returns : goal.returns
-returns c = λ e h. c.loop-column.invariant.done e (omega arith)
+pub returns-clause-sum : goal.returns-clause-sum
+returns-clause-sum c = λ e h. c.loop-column.invariant.done e (omega arith)
+
+pub returns-clause-chunk : goal.returns-clause-chunk
+returns-clause-chunk c = c.loop-column.invariant.chunk (omega arith)
 
 pub loop-column-init : goal.loop-column-init
-loop-column-init c = record { done = λ e h. absurd (omega arith); left = λ e h l. refl }
+loop-column-init c = record { done = λ e h. absurd (omega arith); left = λ e h l. refl; chunk = λ l. absurd (omega arith) }
 
 pub loop-column-preserved : goal.loop-column-preserved
-loop-column-preserved c = 
+loop-column-preserved c =
     let column = c.loop-column.column in
     record {
       done = λ e h.
@@ -21,10 +23,14 @@ loop-column-preserved c =
           inl before ↦ c.store.ensures.below e before ∙ c.loop-column.invariant.done e before
         | inr here ↦
             let to : e / 8 < 16 * column + 16 = omega arith in
-            added _ _ _ _ _
-              (c.store.ensures.within e here to ∙ c.plus.ensures (e / 8 - 16 * column) (e % 8))
-              (c.combined.ensures.each e here to)
-              (c.load.ensures.each e here to ∙ c.loop-column.invariant.left e here (omega arith))
+            let total = c.added_to-product.ensures (horner c.args.self.coefficients c.args.self.chunks.now 0) c.combined.ensures in
+            c.store.ensures.within e here to ∙ total.each e here to
+            ∙ ap (λ n. bit_xor n (horner c.args.self.coefficients c.args.self.chunks.now 0 e)) (c.loop-column.invariant.left e here (omega arith))
         ];
       left = λ e from to. c.store.ensures.above e (omega arith) to ∙ c.loop-column.invariant.left e (omega arith) to;
+      chunk = λ l. c.store.ensures.chunk;
     }
+
+pub added_to-product-requires-clause-first : goal.added_to-product-requires-clause-first
+added_to-product-requires-clause-first c = λ first e from to.
+    c.loop-column.invariant.left e from (omega arith) ∙ c.requires first e (omega arith)

@@ -1,9 +1,9 @@
 // Up to four chunks with their coefficients, whose sum shares its doublings.
 ghost use Rattle.std.specs.Int.{bit_at};
-ghost use Rattle.std.specs.Prelude.{◌≡◌, ℕ, ◌+◌, ◌*◌, ◌^◌, ◌<◌, ◌≤◌, length, slice_index, bit_xor, IsTrue};
+ghost use Rattle.std.specs.Prelude.{◌≡◌, ℕ, ◌+◌, ◌*◌, ◌/◌, ◌^◌, ◌<◌, ◌≤◌, length, slice_index, bit_xor, IsTrue};
 ghost use Rattle.ec_field.specs.Chunk.{element, IsChunk};
 ghost use Rattle.ec_field.specs.Code.{combined_element, chunk_at};
-ghost use Rattle.ec_bitslice.specs.Column.{HasElements};
+ghost use Rattle.ec_bitslice.specs.Column.{AddsColumn, HasElements};
 ghost use Rattle.ec_bitslice.specs.Group.{bit_sum, horner};
 
 use crate::column::{COLUMNS, Column, LANES};
@@ -14,7 +14,7 @@ pub(crate) const FOUR: usize = 4;
 
 /// Up to four chunks, the first of `chunks`, with a coefficient for each. Where there are fewer, the other
 /// coefficients are 0. Four keep their coefficients in registers.
-#[derive(Clone, Copy)]
+#[derive(Drop)]
 pub(crate) struct Group<'a> {
     coefficients: [u8; FOUR],
     /// The largest coefficient.
@@ -52,11 +52,11 @@ impl<'a> Group<'a> {
 
     /// Adds chunk j where bit i of its coefficient is set.
     #[inline(always)]
-    fn plus_if(self, sum: Column, j: usize, i: u32, at: usize) -> Column
+    fn plus_if(&self, sum: Column, j: usize, i: u32, at: usize) -> Column
         requires chunk { j < 4 }
         requires bit { i < 8 }
         requires room { at + 16 ≤ 64 }
-        ensures { (f : ℕ → ℕ) → HasElements sum at f → HasElements result at (λ e. bit_xor (f e) (bit_at (slice_index self.entry.coefficients j) i * element (chunk_at self.entry.chunks.now j) e)) }
+        ensures { (f : ℕ → ℕ) → HasElements sum at f → HasElements result at (λ e. bit_xor (f e) (bit_at (slice_index self.now.coefficients j) i * element (chunk_at self.now.chunks.now j) e)) }
     {
         if self.coefficients[j] >> i & 1 == 1 {
             sum.plus(Column::load(&self.chunks[j], at))
@@ -67,10 +67,10 @@ impl<'a> Group<'a> {
 
     /// Adds each chunk whose coefficient has bit i.
     #[inline(always)]
-    fn plus_bit(self, sum: Column, i: u32, at: usize) -> Column
+    fn plus_bit(&self, sum: Column, i: u32, at: usize) -> Column
         requires bit { i < 8 }
         requires room { at + 16 ≤ 64 }
-        ensures { (f : ℕ → ℕ) → HasElements sum at f → HasElements result at (λ e. bit_xor (f e) (bit_sum self.entry.coefficients self.entry.chunks.now i e)) }
+        ensures { (f : ℕ → ℕ) → HasElements sum at f → HasElements result at (λ e. bit_xor (f e) (bit_sum self.now.coefficients self.now.chunks.now i e)) }
     {
         let sum = self.plus_if(sum, 0, i, at);
         let sum = self.plus_if(sum, 1, i, at);
@@ -80,11 +80,11 @@ impl<'a> Group<'a> {
 
     /// A step of Horner's rule, from the bits above i to those from i on.
     #[inline(always)]
-    fn step(self, sum: Column, i: u32, at: usize) -> Column
+    fn step(&self, sum: Column, i: u32, at: usize) -> Column
         requires bit { i < 8 }
         requires room { at + 16 ≤ 64 }
-        requires above { HasElements sum at (horner self.coefficients self.chunks.now (i + 1)) }
-        ensures { HasElements result at (horner self.entry.coefficients self.entry.chunks.now i) }
+        requires above { HasElements sum at (horner self.now.coefficients self.now.chunks.now (i + 1)) }
+        ensures { HasElements result at (horner self.now.coefficients self.now.chunks.now i) }
     {
         if self.largest >> i == 0 {
             sum
@@ -95,9 +95,9 @@ impl<'a> Group<'a> {
 
     /// The sum of the products of a column, from the highest bit of the coefficients down.
     #[inline(always)]
-    fn combined(self, at: usize) -> Column
+    fn combined(&self, at: usize) -> Column
         requires { at + 16 ≤ 64 }
-        ensures { HasElements result at (horner self.entry.coefficients self.entry.chunks.now 0) }
+        ensures { HasElements result at (horner self.now.coefficients self.now.chunks.now 0) }
     {
         let sum = self.step(Column::zero(), 7, at);
         let sum = self.step(sum, 6, at);
@@ -109,16 +109,28 @@ impl<'a> Group<'a> {
         self.step(sum, 0, at)
     }
 
+    /// Adds the sum of the products to a column. Where `sum` is the first, it is 0 there and need not be read.
+    // One copy for all columns: their tests are the same, so that each teaches the processor the next.
+    #[inline(never)]
+    fn add_column(&self, is_first: bool, at: usize, sum: &mut Chunk)
+        requires room { at + 16 ≤ 64 }
+        requires first { IsTrue is_first → (e : ℕ) → at ≤ e / 8 → e / 8 < at + 16 → element sum.old e ≡ 0 }
+        ensures { AddsColumn (horner self.now.coefficients self.now.chunks.now 0) at sum.old sum.new }
+    {
+        self.combined(at)
+            .added_to(is_first, sum, at)
+            .store(at, sum);
+    }
+
     /// Adds the sum of the products. Where `sum` is the first, it is 0 and need not be read.
-    pub(crate) fn add(self, is_first: bool, sum: &mut Chunk)
+    #[inline(always)]
+    pub(crate) fn add(&self, is_first: bool, sum: &mut Chunk)
         requires { IsTrue is_first → (e : ℕ) → e < 512 → element sum.old e ≡ 0 }
-        ensures sum { (e : ℕ) → e < 512 → element sum.new e ≡ bit_xor (element sum.old e) (horner self.entry.coefficients self.entry.chunks.now 0 e) }
+        ensures sum { (e : ℕ) → e < 512 → element sum.new e ≡ bit_xor (element sum.old e) (horner self.now.coefficients self.now.chunks.now 0 e) }
         ensures chunk { IsChunk sum.new }
     {
         for column in 0..COLUMNS {
-            let at = LANES * column;
-            let product = self.combined(at).added_to(is_first, sum, at);
-            product.store(at, sum);
+            self.add_column(is_first, LANES * column, sum);
         }
     }
 }

@@ -20,17 +20,15 @@ loop-column-preserved c =
     record {
       done = λ e h.
         elim (cases_lt (e / 8) (16 * column)) [
-          inl before ↦ c.store.ensures.below e before ∙ c.loop-column.invariant.done e before
+          inl before ↦ c.add_column.ensures.below e before ∙ c.loop-column.invariant.done e before
         | inr here ↦
-            let to : e / 8 < 16 * column + 16 = omega arith in
-            let total = c.added_to-product.ensures (horner c.args.self.coefficients c.args.self.chunks.now 0) c.combined.ensures in
-            c.store.ensures.within e here to ∙ total.each e here to
-            ∙ ap (λ n. bit_xor n (horner c.args.self.coefficients c.args.self.chunks.now 0 e)) (c.loop-column.invariant.left e here (omega arith))
+          c.add_column.ensures.within e here (omega arith)
+          ∙ ap (λ n. bit_xor n (horner c.args.self.now.coefficients c.args.self.now.chunks.now 0 e)) (c.loop-column.invariant.left e here (omega arith))
         ];
-      left = λ e from to. c.store.ensures.above e (omega arith) to ∙ c.loop-column.invariant.left e (omega arith) to;
-      chunk = λ l. c.store.ensures.chunk;
+      left = λ e from to. c.add_column.ensures.above e (omega arith) to ∙ c.loop-column.invariant.left e (omega arith) to;
+      chunk = λ l. c.add_column.ensures.chunk;
     }
 
-pub added_to-product-requires-clause-first : goal.added_to-product-requires-clause-first
-added_to-product-requires-clause-first c = λ first e from to.
+pub add_column-requires-clause-first : goal.add_column-requires-clause-first
+add_column-requires-clause-first c = λ first e from to.
     c.loop-column.invariant.left e from (omega arith) ∙ c.requires first e (omega arith)

@@ -153,14 +153,3 @@ pub starts : (first : Column) (at : ℕ) (coefficients : List ℕ) (chunks : Lis
 starts first at coefficients chunks bytes none = record {
   each = λ e from to. none (e / 8 - at) (e % 8) ∙ sym (horner_none coefficients chunks 8 e bytes)
 }
-
--- a column that is added to elements of 0, or to others
-pub first_sum : (c : Column) (at : ℕ) (old f : ℕ → ℕ) → ((e : ℕ) → at ≤ e / 8 → e / 8 < at + 16 → old e ≡ 0) → HasElements c at f → HasElements c at (λ e. bit_xor (old e) (f e))
-first_sum c at old f none h = record {
-  each = λ e from to. rw (h.each e from to, none e from to) (sym (xor_zero_l (f e)))
-}
-
-pub later_sum : (a b c : Column) (at : ℕ) (old f : ℕ → ℕ) → ((x k : ℕ) → lane_element c x k ≡ bit_xor (lane_element a x k) (lane_element b x k))
-    → HasElements b at old → HasElements a at f → HasElements c at (λ e. bit_xor (old e) (f e))
-later_sum a b c at old f sum q p =
-    elements-ext c at (λ e. bit_xor (f e) (old e)) (λ e. bit_xor (old e) (f e)) (elements-plus a b c at f old sum p q) (λ e. xor_comm (f e) (old e))

@@ -86,11 +86,3 @@ group_more coefficients all group chunks e n old new same is before sum =
 -- what `&xs[n..]` is
 pub rest_after : {A : Type 0} (n : ℕ) (xs : List A) → take (length xs - n) (drop n xs) ≡ drop n xs
 rest_after n xs = ap (λ k. take k (drop n xs)) (sym (length-drop n xs)) ∙ take-length (drop n xs)
-
--- where nothing was added
-pub added_to_zero : (n sum old : ℕ) → n ≡ bit_xor old sum → old ≡ 0 → n ≡ sum
-added_to_zero n sum old e none = e ∙ ap (λ m. bit_xor m sum) none ∙ xor_zero_l sum
-
-pub zero_element : (chunk : List ℕ) → chunk ≡ zero_chunk → (e : ℕ) → e < 512 → element chunk e ≡ 0
-unfolding zero_chunk
-zero_element chunk is e h = ap (λ c. element c e) is ∙ element-zeros zero_chunk (λ p l. lane-zeros 512 p) e h

@@ -1,5 +1,5 @@
 -- Columns of a chunk, 16 bytes of each plane, and their elements.
-use Rattle.std.specs.Prelude.{◌≡◌, ℕ, ◌+◌, ◌-◌, ◌*◌, ◌/◌, ◌%◌, ◌<◌, ◌≤◌, List, [], ◌∷◌, length, slice_index, slice_index_or, bit_xor}
+use Rattle.std.specs.Prelude.{◌≡◌, ℕ, ◌+◌, ◌-◌, ◌*◌, ◌/◌, ◌%◌, ◌<◌, ◌≤◌, List, [], ◌∷◌, length, slice_index, slice_index_or}
 use Rattle.std.specs.Int.{bit_at}
 use Rattle.ec_field.specs.Chunk.{byte_of, element, IsChunk}
 use Rattle.ec_bitslice.specs.declared.column.Column.{Column}
@@ -28,13 +28,6 @@ pub record StoresLanes (lanes : List ℕ) (at : ℕ) (old new : List ℕ) : Type
 pub record StoresColumn (c : Column) (at : ℕ) (old new : List ℕ) : Type 0 where
   pub len : length new ≡ length old
   pub within : (e : ℕ) → at ≤ e / 8 → e / 8 < at + 16 → element new e ≡ lane_element c (e / 8 - at) (e % 8)
-  pub below : (e : ℕ) → e / 8 < at → element new e ≡ element old e
-  pub above : (e : ℕ) → at + 16 ≤ e / 8 → e / 8 < 64 → element new e ≡ element old e
-  pub chunk : IsChunk new
-
--- f e is added to each element e of the column that begins at byte `at` of each plane, and all other elements stay.
-pub record AddsColumn (f : ℕ → ℕ) (at : ℕ) (old new : List ℕ) : Type 0 where
-  pub within : (e : ℕ) → at ≤ e / 8 → e / 8 < at + 16 → element new e ≡ bit_xor (element old e) (f e)
   pub below : (e : ℕ) → e / 8 < at → element new e ≡ element old e
   pub above : (e : ℕ) → at + 16 ≤ e / 8 → e / 8 < 64 → element new e ≡ element old e
   pub chunk : IsChunk new

@@ -1,6 +1,6 @@
 // A column of a chunk: 16 bytes of each of its 8 planes, which are 128 elements. The eight vectors fit the registers,
 // where those of whole planes of 64 bytes would not.
-ghost use Rattle.std.specs.Prelude.{◌≡◌, ℕ, ◌+◌, ◌*◌, ◌/◌, ◌<◌, ◌≤◌, length, slice_index, bit_xor, IsTrue};
+ghost use Rattle.std.specs.Prelude.{◌≡◌, ℕ, ◌+◌, ◌*◌, ◌<◌, ◌≤◌, length, slice_index, bit_xor};
 ghost use Rattle.ec_field.specs.Field.{product};
 ghost use Rattle.ec_field.specs.Chunk.{element};
 ghost use Rattle.ec_bitslice.specs.Column.{lane_element, HasElements, StoresColumn, StoresLanes};
@@ -109,20 +109,6 @@ impl Column {
             p5: sum(self.p5, other.p5),
             p6: sum(self.p6, other.p6),
             p7: sum(self.p7, other.p7),
-        }
-    }
-
-    /// The sum of each element and that of `sum`, which is 0 and is not read where it is the first.
-    #[inline(always)]
-    pub(crate) fn added_to(self, is_first: bool, sum: &Chunk, at: usize) -> Column
-        requires room { at + 16 ≤ 64 }
-        requires first { IsTrue is_first → (e : ℕ) → at ≤ e / 8 → e / 8 < at + 16 → element sum.now e ≡ 0 }
-        ensures { (f : ℕ → ℕ) → HasElements self at f → HasElements result at (λ e. bit_xor (element sum.now e) (f e)) }
-    {
-        if is_first {
-            self
-        } else {
-            self.plus(Column::load(sum, at))
         }
     }
 

@@ -1,9 +1,9 @@
 // Up to four chunks with their coefficients, whose sum shares its doublings.
 ghost use Rattle.std.specs.Int.{bit_at};
-ghost use Rattle.std.specs.Prelude.{◌≡◌, ℕ, ◌+◌, ◌*◌, ◌/◌, ◌^◌, ◌<◌, ◌≤◌, length, slice_index, bit_xor, IsTrue};
+ghost use Rattle.std.specs.Prelude.{◌≡◌, ℕ, ◌+◌, ◌*◌, ◌^◌, ◌<◌, ◌≤◌, length, slice_index, bit_xor};
 ghost use Rattle.ec_field.specs.Chunk.{element, IsChunk};
 ghost use Rattle.ec_field.specs.Code.{combined_element, chunk_at};
-ghost use Rattle.ec_bitslice.specs.Column.{AddsColumn, HasElements};
+ghost use Rattle.ec_bitslice.specs.Column.{HasElements};
 ghost use Rattle.ec_bitslice.specs.Group.{bit_sum, horner};
 
 use crate::column::{COLUMNS, Column, LANES};
@@ -94,7 +94,8 @@ impl<'a> Group<'a> {
     }
 
     /// The sum of the products of a column, from the highest bit of the coefficients down.
-    #[inline(always)]
+    // One copy for all columns: their tests are the same, so that each teaches the processor the next.
+    #[inline(never)]
     fn combined(&self, at: usize) -> Column
         requires { at + 16 ≤ 64 }
         ensures { HasElements result at (horner self.now.coefficients self.now.chunks.now 0) }
@@ -109,28 +110,29 @@ impl<'a> Group<'a> {
         self.step(sum, 0, at)
     }
 
-    /// Adds the sum of the products to a column. Where `sum` is the first, it is 0 there and need not be read.
-    // One copy for all columns: their tests are the same, so that each teaches the processor the next.
-    #[inline(never)]
-    fn add_column(&self, is_first: bool, at: usize, sum: &mut Chunk)
-        requires room { at + 16 ≤ 64 }
-        requires first { IsTrue is_first → (e : ℕ) → at ≤ e / 8 → e / 8 < at + 16 → element sum.old e ≡ 0 }
-        ensures { AddsColumn (horner self.now.coefficients self.now.chunks.now 0) at sum.old sum.new }
+    /// Writes the sum of the products.
+    #[inline(always)]
+    pub(crate) fn put(&self, sum: &mut Chunk)
+        ensures sum { (e : ℕ) → e < 512 → element sum.new e ≡ horner self.now.coefficients self.now.chunks.now 0 e }
+        ensures chunk { IsChunk sum.new }
     {
-        self.combined(at)
-            .added_to(is_first, sum, at)
-            .store(at, sum);
+        for column in 0..COLUMNS {
+            let at = LANES * column;
+            self.combined(at).store(at, sum);
+        }
     }
 
-    /// Adds the sum of the products. Where `sum` is the first, it is 0 and need not be read.
+    /// Adds the sum of the products.
     #[inline(always)]
-    pub(crate) fn add(&self, is_first: bool, sum: &mut Chunk)
-        requires { IsTrue is_first → (e : ℕ) → e < 512 → element sum.old e ≡ 0 }
+    pub(crate) fn add(&self, sum: &mut Chunk)
         ensures sum { (e : ℕ) → e < 512 → element sum.new e ≡ bit_xor (element sum.old e) (horner self.now.coefficients self.now.chunks.now 0 e) }
         ensures chunk { IsChunk sum.new }
     {
         for column in 0..COLUMNS {
-            self.add_column(is_first, LANES * column, sum);
+            let at = LANES * column;
+            Column::load(sum, at)
+                .plus(self.combined(at))
+                .store(at, sum);
         }
     }
 }

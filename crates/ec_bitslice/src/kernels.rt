@@ -14,7 +14,7 @@ pub fn mul_const(a: u8, c: &Chunk) -> Chunk
     ensures chunk { IsChunk result }
 {
     let mut product = Chunk::zero();
-    Group::new(&[a], slice::from_ref(c)).add(true, &mut product);
+    Group::new(&[a], slice::from_ref(c)).put(&mut product);
     product
 }
 
@@ -23,7 +23,7 @@ pub fn muladd(a: u8, c: &Chunk, acc: &mut Chunk)
     ensures sum { (e : ℕ) → e < 512 → element acc.new e ≡ bit_xor (element acc.old e) (product a (element c.now e)) }
     ensures chunk { IsChunk acc.new }
 {
-    Group::new(&[a], slice::from_ref(c)).add(false, acc);
+    Group::new(&[a], slice::from_ref(c)).add(acc);
 }
 
 /// The sum of the chunks, each times its coefficient. The chunks share their doublings, four by four.
@@ -33,9 +33,10 @@ pub fn dot(coeffs: &[u8], chunks: &[Chunk]) -> Chunk
     ensures chunk { IsChunk result }
 {
     let mut sum = Chunk::zero();
-    for four in 0..coeffs.len().div_ceil(FOUR) {
+    Group::new(coeffs, chunks).put(&mut sum);
+    for four in 1..coeffs.len().div_ceil(FOUR) {
         let from = FOUR * four;
-        Group::new(&coeffs[from..], &chunks[from..]).add(four == 0, &mut sum);
+        Group::new(&coeffs[from..], &chunks[from..]).add(&mut sum);
     }
     sum
 }

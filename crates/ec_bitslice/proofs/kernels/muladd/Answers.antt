@@ -1,12 +1,10 @@
 use Rattle.std.proofs.Common.{◌≡◌, ℕ, ◌+◌, ◌*◌, ◌<◌, ◌≤◌, List, [], ◌∷◌, length, get_or, drop, refl, sym, ap, ap₂, ◌∙◌, arith}
 use Rattle.std.specs.Prelude.{bit_xor}
-use Rattle.std.proofs.lemmas.Bool.{eqb-true}
 use Rattle.ec_field.specs.Field.{product}
 use Rattle.ec_field.specs.Chunk.{element}
 use Rattle.ec_field.specs.Code.{combined_element, chunk_at}
-use Rattle.ec_field.proofs.Sums.{sum_none}
 use Rattle.ec_bitslice.specs.Group.{horner}
-use Rattle.ec_bitslice.proofs.Sums.{group_sum, group_single, group_more, combined_past, rest_after, zero_element, added_to_zero}
+use Rattle.ec_bitslice.proofs.Sums.{group_sum, group_single, group_more, combined_past, rest_after}
 use Rattle.ec_bitslice.proofs.kernels.muladd.Goals as goal
 
 pub returns-clause-sum : goal.returns-clause-sum

@@ -1,7 +1,7 @@
 use Rattle.std.proofs.Common.{◌≡◌, ℕ, ◌+◌, ◌-◌, ◌*◌, ◌/◌, ◌%◌, ◌<◌, ◌≤◌, arith, inl, inr, ap, ap₂, sym, ◌∙◌, refl}
 use Rattle.std.proofs.lemmas.Bool.{cases_lt}
 use Rattle.std.specs.Prelude.{bit_xor}
-use Rattle.ec_field.specs.Chunk.{element}
+use Rattle.ec_field.specs.Chunk.{element, IsChunk}
 use Rattle.ec_bitslice.specs.Group.{horner}
 use Rattle.ec_bitslice.proofs.group.Group.add.Goals as goal
 
@@ -20,15 +20,12 @@ loop-column-preserved c =
     record {
       done = λ e h.
         elim (cases_lt (e / 8) (16 * column)) [
-          inl before ↦ c.add_column.ensures.below e before ∙ c.loop-column.invariant.done e before
+          inl before ↦ c.store.ensures.below e before ∙ c.loop-column.invariant.done e before
         | inr here ↦
-          c.add_column.ensures.within e here (omega arith)
-          ∙ ap (λ n. bit_xor n (horner c.args.self.now.coefficients c.args.self.now.chunks.now 0 e)) (c.loop-column.invariant.left e here (omega arith))
+          let to : e / 8 < 16 * column + 16 = omega arith in
+          c.store.ensures.within e here to ∙ c.plus.ensures (e / 8 - 16 * column) (e % 8)
+          ∙ ap₂ bit_xor (c.load.ensures.each e here to ∙ c.loop-column.invariant.left e here (omega arith)) (c.combined.ensures.each e here to)
         ];
-      left = λ e from to. c.add_column.ensures.above e (omega arith) to ∙ c.loop-column.invariant.left e (omega arith) to;
-      chunk = λ l. c.add_column.ensures.chunk;
+      left = λ e from to. c.store.ensures.above e (omega arith) to ∙ c.loop-column.invariant.left e (omega arith) to;
+      chunk = λ l. c.store.ensures.chunk;
     }
-
-pub add_column-requires-clause-first : goal.add_column-requires-clause-first
-add_column-requires-clause-first c = λ first e from to.
-    c.loop-column.invariant.left e from (omega arith) ∙ c.requires first e (omega arith)

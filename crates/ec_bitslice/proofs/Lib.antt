@@ -2,3 +2,4 @@ pub mod Lanes
 pub mod Columns
 pub mod Horner
 pub mod Sums
+pub mod PlaneBits

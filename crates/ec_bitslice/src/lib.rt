@@ -8,8 +8,10 @@
 mod column;
 mod group;
 mod kernels;
+mod packing;
 
 pub use kernels::{dot, mul_const, muladd};
+pub use packing::{pack, unpack};
 
 
 

@@ -55,7 +55,7 @@ unfolding lane_element
 element-plus a b c x k e0 e1 e2 e3 e4 e5 e6 e7 =
     let each = below_eight (λ i. get_or (plane c i) x 0 ≡ bit_xor (get_or (plane a i) x 0) (get_or (plane b i) x 0)) e0 e1 e2 e3 e4 e5 e6 e7 in
     sum_ext 8 (λ i. bit_at (get_or (plane c i) x 0) k * 2 ^ i) (λ i. bit_xor (bit_at (get_or (plane a i) x 0) k * 2 ^ i) (bit_at (get_or (plane b i) x 0) k * 2 ^ i))
-      (λ i h. rw (each i h) ((bit_times-linear k (2 ^ i)).xor (get_or (plane a i) x 0) (get_or (plane b i) x 0)))
+    (λ i h. rw (each i h) ((bit_times-linear k (2 ^ i)).xor (get_or (plane a i) x 0) (get_or (plane b i) x 0)))
     ∙ sum_xor 8 (λ i. bit_at (get_or (plane a i) x 0) k * 2 ^ i) (λ i. bit_at (get_or (plane b i) x 0) k * 2 ^ i)
 
 -- bit i of twice a byte, from its bits
@@ -98,8 +98,8 @@ element-doubled a c x k e0 e1 e2 e3 e4 e5 e6 e7 =
     let moved : (m n : ℕ) → m ≡ n → bit_at m k ≡ bit_at n k = λ m n e. ap (λ v. bit_at v k) e in
     let summed : (m n l : ℕ) → m ≡ bit_xor n l → bit_at m k ≡ (bit_at n k + bit_at l k) % 2 = λ m n l e. ap (λ v. bit_at v k) e ∙ bit_at_xor n l k in
     byte_of-ext (lane_bit c x k) (doubled_bit (lane_bit a x k))
-      (below_eight (λ i. lane_bit c x k i ≡ doubled_bit (lane_bit a x k) i)
-        (moved _ _ e0) (moved _ _ e1) (summed _ _ _ e2) (summed _ _ _ e3) (summed _ _ _ e4) (moved _ _ e5) (moved _ _ e6) (moved _ _ e7))
+    (below_eight (λ i. lane_bit c x k i ≡ doubled_bit (lane_bit a x k) i)
+    (moved _ _ e0) (moved _ _ e1) (summed _ _ _ e2) (summed _ _ _ e3) (summed _ _ _ e4) (moved _ _ e5) (moved _ _ e6) (moved _ _ e7))
     ∙ sym (twice_of_bits (lane_bit a x k) (λ i h. bit_at-lt (get_or (plane a i) x 0) k))
 
 -- The bytes of a column, where those of the chunk begin at `at` in each plane.
@@ -113,8 +113,8 @@ pub column_elements : (c : Column) (chunk : List ℕ) (at : ℕ) → HasBytes c 
 unfolding lane_element element
 column_elements c chunk at b = record {
   each = λ e from to.
-    byte_of-ext (lane_bit c (e / 8 - at) (e % 8)) (element_bit chunk e)
-      (λ i h. ap (λ v. bit_at v (e % 8)) (b.each i h (e / 8 - at) (omega arith) ∙ ap (λ n. get_or chunk n 0) (place at i e from)))
+      byte_of-ext (lane_bit c (e / 8 - at) (e % 8)) (element_bit chunk e)
+      (λ i h. ap (λ v. bit_at v (e % 8)) (b.each i h (e / 8 - at) (omega arith) ∙ ap (λ n. get_or chunk n 0) (place at i e from)));
 }
 
 pub loaded : (c : Column) (chunk other : List ℕ) (at : ℕ) → chunk ≡ other
@@ -130,7 +130,7 @@ pub loaded : (c : Column) (chunk other : List ℕ) (at : ℕ) → chunk ≡ othe
 loaded c chunk other at is e0 e1 e2 e3 e4 e5 e6 e7 =
     subst (λ (xs : List ℕ). HasElements c at (element xs)) is (column_elements c chunk at (record {
       each = below_eight (λ i. (x : ℕ) → x < 16 → get_or (plane c i) x 0 ≡ get_or chunk (64 * i + at + x) 0)
-        (λ x h. rw (zero-add at) (e0 x h)) e1 e2 e3 e4 e5 e6 e7
+          (λ x h. rw (zero-add at) (e0 x h)) e1 e2 e3 e4 e5 e6 e7;
     }))
 
 -- The first j planes of a column are written, and what lies in other columns stays.
@@ -152,22 +152,22 @@ pub stores_more : (j : ℕ) (c : Column) (at from : ℕ) (old mid new : List ℕ
 stores_more j c at from old mid new room is s l = record {
   len = l.len ∙ s.len;
   within = λ i h x k.
-    elim (cases_lt i j) [
-      inl first ↦ l.below (64 * i + at + x) (omega arith) ∙ s.within i first x k
-    | inr last ↦
-      let same : i ≡ j = omega arith in
-      rw (same, ← is) (l.within x k)
-    ];
+      elim (cases_lt i j) [
+        | inl first ↦ l.below (64 * i + at + x) (omega arith) ∙ s.within i first x k
+        | inr last ↦
+            let same : i ≡ j = omega arith in
+            rw (same, ← is) (l.within x k)
+      ];
   below = λ n h.
-    elim (cases_lt n from) [
-      inl before ↦ l.below n before ∙ s.below n h
-    | inr after ↦ l.above n (omega arith) ∙ s.below n h
-    ];
+      elim (cases_lt n from) [
+        | inl before ↦ l.below n before ∙ s.below n h
+        | inr after ↦ l.above n (omega arith) ∙ s.below n h
+      ];
   above = λ n h.
-    elim (cases_lt n from) [
-      inl before ↦ l.below n before ∙ s.above n h
-    | inr after ↦ l.above n (omega arith) ∙ s.above n h
-    ];
+      elim (cases_lt n from) [
+        | inl before ↦ l.below n before ∙ s.above n h
+        | inr after ↦ l.above n (omega arith) ∙ s.above n h
+      ];
 }
 
 same_element : (old new : List ℕ) (e : ℕ) → ((i : ℕ) → i < 8 → get_or new (64 * i + e / 8) 0 ≡ get_or old (64 * i + e / 8) 0) → element new e ≡ element old e

@@ -26,12 +26,12 @@ elements-ext c at f g h same = record { each = λ e from to. h.each e from to �
 pub elements-plus : (a b c : Column) (at : ℕ) (f g : ℕ → ℕ) → ((x k : ℕ) → lane_element c x k ≡ bit_xor (lane_element a x k) (lane_element b x k))
     → HasElements a at f → HasElements b at g → HasElements c at (λ e. bit_xor (f e) (g e))
 elements-plus a b c at f g sum p q = record {
-  each = λ e from to. rw (sum (e / 8 - at) (e % 8), p.each e from to, q.each e from to) refl
+  each = λ e from to. rw (sum (e / 8 - at) (e % 8), p.each e from to, q.each e from to) refl;
 }
 
 pub elements-doubled : (a c : Column) (at : ℕ) (f : ℕ → ℕ) → ((x k : ℕ) → lane_element c x k ≡ product 2 (lane_element a x k)) → HasElements a at f → HasElements c at (λ e. product 2 (f e))
 elements-doubled a c at f twice p = record {
-  each = λ e from to. rw (twice (e / 8 - at) (e % 8), p.each e from to) refl
+  each = λ e from to. rw (twice (e / 8 - at) (e % 8), p.each e from to) refl;
 }
 
 -- a chunk is added where its bit is set
@@ -43,23 +43,23 @@ pub plus_set : (sum part result : Column) (at : ℕ) (coefficient i j : ℕ) (ch
 plus_set sum part result at coefficient i j chunks chunk other absent set is has plus f h =
     let bit : bit_at coefficient i ≡ 1 = sym (shr_and_one coefficient i) ∙ set in
     let within : j < length chunks =
-          elim (cases_lt j (length chunks)) [
-            inl l ↦ l
-          | inr past ↦
-            let none : bit_at coefficient i ≡ 0 = ap (λ n. bit_at n i) (absent (omega arith)) ∙ bit_at-zero i in
-            absurd (omega (arith, none, bit))
-          ] in
+    elim (cases_lt j (length chunks)) [
+      | inl l ↦ l
+      | inr past ↦
+          let none : bit_at coefficient i ≡ 0 = ap (λ n. bit_at n i) (absent (omega arith)) ∙ bit_at-zero i in
+          absurd (omega (arith, none, bit))
+    ] in
     let same : chunk ≡ chunk_at chunks j = is ∙ get_or_default chunks j other [] within in
     elements-ext result at (λ e. bit_xor (f e) (element chunk e)) (λ e. bit_xor (f e) (bit_at coefficient i * element (chunk_at chunks j) e))
-      (elements-plus sum part result at f (element chunk) plus h has)
-      (λ e. rw (bit, same, one-mul (element (chunk_at chunks j) e)) refl)
+    (elements-plus sum part result at f (element chunk) plus h has)
+    (λ e. rw (bit, same, one-mul (element (chunk_at chunks j) e)) refl)
 
 pub plus_clear : (sum : Column) (at : ℕ) (coefficient i : ℕ) (chunk : List ℕ) → (bit_and (coefficient / 2 ^ i) 1 ≡ 1 → ⊥)
     → (f : ℕ → ℕ) → HasElements sum at f → HasElements sum at (λ e. bit_xor (f e) (bit_at coefficient i * element chunk e))
 plus_clear sum at coefficient i chunk clear f h =
     elim (bit_cases coefficient i) [
-      inl none ↦ elements-ext sum at f (λ e. bit_xor (f e) (bit_at coefficient i * element chunk e)) h (λ e. rw (none, zero-mul (element chunk e)) (sym (xor_zero_r (f e))))
-    | inr one ↦ absurd (clear (shr_and_one coefficient i ∙ one))
+      | inl none ↦ elements-ext sum at f (λ e. bit_xor (f e) (bit_at coefficient i * element chunk e)) h (λ e. rw (none, zero-mul (element chunk e)) (sym (xor_zero_r (f e))))
+      | inr one ↦ absurd (clear (shr_and_one coefficient i ∙ one))
     ]
 
 -- four terms, one after the other
@@ -70,13 +70,13 @@ four_terms n g =
 
 pub plus_four : (result : Column) (at : ℕ) (coefficients : List ℕ) (chunks : List (List ℕ)) (i : ℕ) (f : ℕ → ℕ)
     → (let g : ℕ → ℕ → ℕ = λ j e. bit_at (get_or coefficients j 0) i * element (chunk_at chunks j) e in
-        HasElements result at (λ e. bit_xor (bit_xor (bit_xor (bit_xor (f e) (g 0 e)) (g 1 e)) (g 2 e)) (g 3 e)))
+    HasElements result at (λ e. bit_xor (bit_xor (bit_xor (bit_xor (f e) (g 0 e)) (g 1 e)) (g 2 e)) (g 3 e)))
     → HasElements result at (λ e. bit_xor (f e) (bit_sum coefficients chunks i e))
 unfolding bit_sum
 plus_four result at coefficients chunks i f h =
     let g : ℕ → ℕ → ℕ = λ j e. bit_at (get_or coefficients j 0) i * element (chunk_at chunks j) e in
     elements-ext result at (λ e. bit_xor (bit_xor (bit_xor (bit_xor (f e) (g 0 e)) (g 1 e)) (g 2 e)) (g 3 e)) (λ e. bit_xor (f e) (sum_below 4 (λ j. g j e))) h
-      (λ e. four_terms (f e) (λ j. g j e))
+    (λ e. four_terms (f e) (λ j. g j e))
 
 twice_low : (n : ℕ) → n < 128 → product 2 n ≡ n * 2
 unfolding product reduced sum_below
@@ -122,7 +122,7 @@ pub horner_none : (coefficients : List ℕ) (chunks : List (List ℕ)) (i e : �
 unfolding horner
 horner_none coefficients chunks i e low =
     sum_zeros 4 (λ j. product (get_or coefficients j 0 / 2 ^ i) (element (chunk_at chunks j) e))
-      (λ j h. rw (div-eq_of_lt (low j)) (product-zero_left (element (chunk_at chunks j) e)))
+    (λ j h. rw (div-eq_of_lt (low j)) (product-zero_left (element (chunk_at chunks j) e)))
 
 pub step_none : (sum : Column) (at : ℕ) (coefficients : List ℕ) (chunks : List (List ℕ)) (largest i : ℕ)
     → ((j : ℕ) → get_or coefficients j 0 ≤ largest) → largest / 2 ^ i ≡ 0
@@ -132,8 +132,8 @@ step_none sum at coefficients chunks largest i bounded none h =
     let small : largest < 2 ^ i = simp (none, zero-mul, zero-add) at near in
     let more : 2 ^ (i + 1) ≡ 2 ^ i * 2 = ap (λ m. 2 ^ m) (add-one i) ∙ pow-suc 2 i in
     elements-ext sum at (horner coefficients chunks (i + 1)) (horner coefficients chunks i) h
-      (λ e. horner_none coefficients chunks (i + 1) e (λ j. let b = bounded j in omega (arith, b))
-        ∙ sym (horner_none coefficients chunks i e (λ j. let b = bounded j in omega (arith, b))))
+    (λ e. horner_none coefficients chunks (i + 1) e (λ j. let b = bounded j in omega (arith, b))
+    ∙ sym (horner_none coefficients chunks i e (λ j. let b = bounded j in omega (arith, b))))
 
 pub step_some : (sum doubled result : Column) (at : ℕ) (coefficients : List ℕ) (chunks : List (List ℕ)) (i : ℕ)
     → ((j : ℕ) → IsByte (get_or coefficients j 0))
@@ -144,12 +144,12 @@ pub step_some : (sum doubled result : Column) (at : ℕ) (coefficients : List �
 step_some sum doubled result at coefficients chunks i bytes h twice plus =
     let f : ℕ → ℕ = λ e. product 2 (horner coefficients chunks (i + 1) e) in
     elements-ext result at (λ e. bit_xor (f e) (bit_sum coefficients chunks i e)) (horner coefficients chunks i)
-      (plus f (elements-doubled sum doubled at (horner coefficients chunks (i + 1)) twice h))
-      (λ e. horner_step coefficients chunks i e bytes)
+    (plus f (elements-doubled sum doubled at (horner coefficients chunks (i + 1)) twice h))
+    (λ e. horner_step coefficients chunks i e bytes)
 
 -- no byte has a bit from 8 on
 pub starts : (first : Column) (at : ℕ) (coefficients : List ℕ) (chunks : List (List ℕ)) → ((j : ℕ) → IsByte (get_or coefficients j 0))
     → ((x k : ℕ) → lane_element first x k ≡ 0) → HasElements first at (horner coefficients chunks 8)
 starts first at coefficients chunks bytes none = record {
-  each = λ e from to. none (e / 8 - at) (e % 8) ∙ sym (horner_none coefficients chunks 8 e bytes)
+  each = λ e from to. none (e / 8 - at) (e % 8) ∙ sym (horner_none coefficients chunks 8 e bytes);
 }

@@ -75,18 +75,18 @@ pub planes_more : (i byte value : ℕ) (elements planes : List ℕ) → i < 8 �
 planes_more i byte value elements planes bit within bits h = record {
   len = length-set planes (64 * i + byte) value ∙ h.len;
   each = λ p l k m.
-    elim (cases_lt p (64 * i + byte)) [
-      inl before ↦
-        let other : p ≢ 64 * i + byte = λ same. absurd (omega arith) in
-        ap (λ n. bit_at n k) (get_or-set_other planes (64 * i + byte) p value 0 other) ∙ h.each p before k m
-    | inr here ↦
-        let same : p ≡ 64 * i + byte = omega arith in
-        let long = h.len in
-        let room : 64 * i + byte < length planes = omega arith in
-        let low : (64 * i + byte) % 64 ≡ byte = omega arith in
-        let high : (64 * i + byte) / 64 ≡ i = omega arith in
-        rw (same, get_or-set_same planes (64 * i + byte) value 0 room, low, high) (bits k m)
-    ];
+      elim (cases_lt p (64 * i + byte)) [
+        | inl before ↦
+            let other : p ≢ 64 * i + byte = λ same. absurd (omega arith) in
+            ap (λ n. bit_at n k) (get_or-set_other planes (64 * i + byte) p value 0 other) ∙ h.each p before k m
+        | inr here ↦
+            let same : p ≡ 64 * i + byte = omega arith in
+            let long = h.len in
+            let room : 64 * i + byte < length planes = omega arith in
+            let low : (64 * i + byte) % 64 ≡ byte = omega arith in
+            let high : (64 * i + byte) / 64 ≡ i = omega arith in
+            rw (same, get_or-set_same planes (64 * i + byte) value 0 room, low, high) (bits k m)
+      ];
 }
 
 pub planes_row : (i : ℕ) (elements planes : List ℕ) → HasPlanes (64 * i + 64) elements planes → HasPlanes (64 * (i + 1)) elements planes
@@ -95,14 +95,14 @@ planes_row i elements planes h = record { len = h.len; each = λ p l k m. h.each
 pub planes_packed : (elements planes chunk : List ℕ) → chunk ≡ planes → ((e : ℕ) → Fits w8 (get_or elements e 0)) → HasPlanes 512 elements planes → IsPacked elements chunk
 planes_packed elements planes chunk is bytes h e l =
     same_from_bits_below 8 (element chunk e) (get_or elements e 0) (element_is_byte chunk e) (let b : Fits w8 (get_or elements e 0) = bytes e in b.fits)
-      (λ i m.
-        let low : (64 * i + e / 8) % 64 ≡ e / 8 = omega arith in
-        let high : (64 * i + e / 8) / 64 ≡ i = omega arith in
-        let place : 8 * (e / 8) + e % 8 ≡ e = omega arith in
-        bit_of_element chunk e i m
-        ∙ ap (λ c. element_bit c e i) is
-        ∙ h.each (64 * i + e / 8) (omega arith) (e % 8) (omega arith)
-        ∙ rw (low, high, place) refl)
+    (λ i m.
+    let low : (64 * i + e / 8) % 64 ≡ e / 8 = omega arith in
+    let high : (64 * i + e / 8) / 64 ≡ i = omega arith in
+    let place : 8 * (e / 8) + e % 8 ≡ e = omega arith in
+    bit_of_element chunk e i m
+    ∙ ap (λ c. element_bit c e i) is
+    ∙ h.each (64 * i + e / 8) (omega arith) (e % 8) (omega arith)
+    ∙ rw (low, high, place) refl)
 
 pub same_packed : (elements a b : List ℕ) → IsChunk a → IsChunk b → IsPacked elements a → IsPacked elements b → a ≡ b
 same_packed elements a b p q f g = same_chunk a b p q (λ e h. f e h ∙ sym (g e h))
@@ -114,11 +114,11 @@ pub unpacked_more : (e place value : ℕ) (chunk out : List ℕ) → place ≡ e
     → ((n : ℕ) → n < e → element chunk n ≡ get_or out n 0) → (n : ℕ) → n < e + 1 → element chunk n ≡ get_or (set out place value) n 0
 unpacked_more e place value chunk out at room is h n l =
     rw at
-      (elim (cases_lt n e) [
-        inl before ↦
+    (elim (cases_lt n e) [
+      | inl before ↦
           let other : n ≢ e = λ same. absurd (omega arith) in
           h n before ∙ sym (get_or-set_other out e n value 0 other)
       | inr here ↦
           let same : n ≡ e = omega arith in
           rw (same, get_or-set_same out e value 0 room) (sym is)
-      ])
+    ])

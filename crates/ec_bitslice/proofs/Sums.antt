@@ -20,7 +20,7 @@ horner_whole : (coefficients others : List ℕ) (chunks : List (List ℕ)) (e : 
 unfolding horner
 horner_whole coefficients others chunks e same =
     sum_ext 4 (λ j. product (get_or coefficients j 0 / 1) (element (chunk_at chunks j) e)) (λ j. product (get_or others j 0) (element (chunk_at chunks j) e))
-      (λ j h. let one : get_or coefficients j 0 / 1 ≡ get_or coefficients j 0 = omega arith in ap (λ m. product m (element (chunk_at chunks j) e)) (one ∙ same j h))
+    (λ j h. let one : get_or coefficients j 0 / 1 ≡ get_or coefficients j 0 = omega arith in ap (λ m. product m (element (chunk_at chunks j) e)) (one ∙ same j h))
 
 pub group_sum : (coefficients others : List ℕ) (group chunks : List (List ℕ)) (e : ℕ) → ((j : ℕ) → j < 4 → get_or coefficients j 0 ≡ get_or others j 0) → group ≡ chunks
     → horner coefficients group 0 e ≡ combined_element 4 (λ j. get_or others j 0) chunks e
@@ -65,12 +65,12 @@ four_more n f =
 -- one group more
 pub combined_more : (coefficients : List ℕ) (chunks : List (List ℕ)) (e n : ℕ)
     → bit_xor (combined_element n (λ j. get_or coefficients j 0) chunks e) (combined_element 4 (λ j. get_or (drop n coefficients) j 0) (drop n chunks) e)
-      ≡ combined_element (n + 4) (λ j. get_or coefficients j 0) chunks e
+    ≡ combined_element (n + 4) (λ j. get_or coefficients j 0) chunks e
 combined_more coefficients chunks e n =
     let f : ℕ → ℕ = λ j. product (get_or coefficients j 0) (element (chunk_at chunks j) e) in
     ap (bit_xor (sum_below n f))
-      (sum_ext 4 (λ j. product (get_or (drop n coefficients) j 0) (element (chunk_at (drop n chunks) j) e)) (λ j. f (n + j))
-        (λ j h. rw (get_or-drop n coefficients j 0, get_or-drop n chunks j []) refl))
+    (sum_ext 4 (λ j. product (get_or (drop n coefficients) j 0) (element (chunk_at (drop n chunks) j) e)) (λ j. f (n + j))
+    (λ j h. rw (get_or-drop n coefficients j 0, get_or-drop n chunks j []) refl))
     ∙ four_more n f
 
 pub group_single : (coefficients : List ℕ) (group : List (List ℕ)) (a : ℕ) (chunk : List ℕ) (e : ℕ) → ((j : ℕ) → j < 4 → get_or coefficients j 0 ≡ get_or (a ∷ []) j 0) → group ≡ chunk ∷ []

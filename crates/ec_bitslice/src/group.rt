@@ -130,9 +130,7 @@ impl<'a> Group<'a> {
     {
         for column in 0..COLUMNS {
             let at = LANES * column;
-            Column::load(sum, at)
-                .plus(self.combined(at))
-                .store(at, sum);
+            Column::load(sum, at).plus(self.combined(at)).store(at, sum);
         }
     }
 }

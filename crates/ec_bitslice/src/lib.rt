@@ -13,6 +13,5 @@ mod packing;
 pub use kernels::{dot, mul_const, muladd};
 pub use packing::{pack, unpack};
 
-
-
-
+#[cfg(test)]
+mod tests;

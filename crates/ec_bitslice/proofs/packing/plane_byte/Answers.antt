@@ -7,7 +7,7 @@ use Rattle.ec_bitslice.proofs.PlaneBits.{mask_fits, mask_bit, bit_value, HasPlan
 use Rattle.ec_bitslice.proofs.packing.plane_byte.Goals as goal
 
 pub overflow_cast-result : goal.overflow_cast-result
-overflow_cast-result c = 
+overflow_cast-result c =
     let v = chunk c.args.from 8 c.args.elements.now in
     record { fits = mask_fits v c.args.i (1 * 2 ^ c.args.i % 2 ^ 8) _ (length-chunk c.args.from 8 c.args.elements.now c.requires.room) (bit_value c.args.i c.requires.bit) refl }
 

@@ -17,5 +17,5 @@ pub loop-e-init : goal.loop-e-init
 loop-e-init c = λ n h. absurd (omega arith)
 
 pub loop-e-preserved : goal.loop-e-preserved
-loop-e-preserved c = 
+loop-e-preserved c =
     unpacked_more c.loop-e.e c.from.result c.element.result c.args.c.now c.loop-e.out c.from.ensures (omega arith) c.element.ensures c.loop-e.invariant

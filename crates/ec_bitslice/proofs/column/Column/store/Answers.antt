@@ -3,7 +3,7 @@ use Rattle.ec_bitslice.proofs.Columns.{stores_column, stores_none, stores_more}
 use Rattle.ec_bitslice.proofs.column.Column.store.Goals as goal
 
 pub returns : goal.returns
-returns c = 
+returns c =
     let at = c.args.at in
     let old = c.args.chunk.now in
     let room = c.requires in

@@ -19,13 +19,13 @@ loop-column-preserved c =
     let column = c.loop-column.column in
     record {
       done = λ e h.
-        elim (cases_lt (e / 8) (16 * column)) [
-          inl before ↦ c.store.ensures.below e before ∙ c.loop-column.invariant.done e before
-        | inr here ↦
-          let to : e / 8 < 16 * column + 16 = omega arith in
-          c.store.ensures.within e here to ∙ c.plus.ensures (e / 8 - 16 * column) (e % 8)
-          ∙ ap₂ bit_xor (c.load.ensures.each e here to ∙ c.loop-column.invariant.left e here (omega arith)) (c.combined.ensures.each e here to)
-        ];
+          elim (cases_lt (e / 8) (16 * column)) [
+            | inl before ↦ c.store.ensures.below e before ∙ c.loop-column.invariant.done e before
+            | inr here ↦
+                let to : e / 8 < 16 * column + 16 = omega arith in
+                c.store.ensures.within e here to ∙ c.plus.ensures (e / 8 - 16 * column) (e % 8)
+                ∙ ap₂ bit_xor (c.load.ensures.each e here to ∙ c.loop-column.invariant.left e here (omega arith)) (c.combined.ensures.each e here to)
+          ];
       left = λ e from to. c.store.ensures.above e (omega arith) to ∙ c.loop-column.invariant.left e (omega arith) to;
       chunk = λ l. c.store.ensures.chunk;
     }

@@ -17,9 +17,9 @@ loop-column-init c = record { done = λ e h. absurd (omega arith); chunk = λ l.
 pub loop-column-preserved : goal.loop-column-preserved
 loop-column-preserved c = record {
   done = λ e h.
-    elim (cases_lt (e / 8) (16 * c.loop-column.column)) [
-      inl before ↦ c.store.ensures.below e before ∙ c.loop-column.invariant.done e before
-    | inr here ↦ c.store.ensures.within e here (omega arith) ∙ c.combined.ensures.each e here (omega arith)
-    ];
+      elim (cases_lt (e / 8) (16 * c.loop-column.column)) [
+        | inl before ↦ c.store.ensures.below e before ∙ c.loop-column.invariant.done e before
+        | inr here ↦ c.store.ensures.within e here (omega arith) ∙ c.combined.ensures.each e here (omega arith)
+      ];
   chunk = λ l. c.store.ensures.chunk;
 }

@@ -1,17 +1,17 @@
 -- Horner's rule over the bits of coefficients.
-use Rattle.std.proofs.Common.{◌≡◌, ℕ, zero, suc, ◌+◌, ◌-◌, ◌*◌, ◌/◌, ◌%◌, ◌^◌, ◌<◌, ◌≤◌, List, [], length, get_or, ◌⊎◌, inl, inr, refl, ap, ap₂, sym, ◌∙◌, arith, lit<, add-one, add-zero, zero-add}
+use Rattle.std.proofs.Common.{◌≡◌, ℕ, ◌+◌, ◌-◌, ◌*◌, ◌/◌, ◌%◌, ◌^◌, ◌<◌, ◌≤◌, List, [], length, get_or, ◌⊎◌, inl, inr, refl, ap, sym, ◌∙◌, arith, lit<, add-one, zero-add}
 use Rattle.std.specs.Prelude.{bit_xor, bit_and}
 use Rattle.std.specs.Int.{bit_at}
 use Rattle.std.specs.Int.Bits.{xor_shifted, xor_assoc, xor_zero_l, xor_zero_r}
 use Rattle.std.proofs.lemmas.Bool.{cases_lt}
-use Rattle.std.proofs.lemmas.List.{get_or_default, get_or_past}
-use Rattle.std.proofs.lemmas.Nat.{shr_le, pow_pos, xor_comm}
-use Rattle.std.proofs.lemmas.Nat.Bits.{shr_and_one, bit_at-lt, bit_at-zero}
+use Rattle.std.proofs.lemmas.List.{get_or_default}
+use Rattle.std.proofs.lemmas.Nat.{shr_le, pow_pos}
+use Rattle.std.proofs.lemmas.Nat.Bits.{shr_and_one, bit_at-zero}
 use Rattle.std.proofs.Math.Nat.{zero-mul, one-mul, mod-lt, div-eq_of_lt, div-div-eq-div-mul, lt-div-mul-add, pow-suc}
 use Rattle.ec_field.specs.Field.{sum_below, product, reduced, IsByte}
 use Rattle.ec_field.specs.Chunk.{element}
 use Rattle.ec_field.specs.Code.{chunk_at}
-use Rattle.ec_field.proofs.Sums.{sum_ext, sum_xor, sum_zeros, sum_suc, sum_none}
+use Rattle.ec_field.proofs.Sums.{sum_ext, sum_xor, sum_zeros}
 use Rattle.ec_field.proofs.Linear.{below_two, bit_cases}
 use Rattle.ec_field.proofs.Tables.{agree_at}
 use Rattle.ec_field.proofs.Products.{product-left, product-zero_left, product-sum_right, product_assoc, one_product}

@@ -1,5 +1,5 @@
 -- Elements and their bits in planes.
-use Rattle.std.proofs.Common.{◌≡◌, ℕ, zero, suc, ◌+◌, ◌-◌, ◌*◌, ◌/◌, ◌%◌, ◌^◌, ◌<◌, ◌≤◌, List, [], ◌∷◌, map, length, get_or, set, Bool, true, false, cond, eqb, ◌⊎◌, inl, inr, refl, ap, ap₂, sym, ◌∙◌, arith, subst, Fits, w8, get_or-set_other, get_or-set_same, length-set, ◌≢◌}
+use Rattle.std.proofs.Common.{◌≡◌, ℕ, zero, suc, ◌+◌, ◌*◌, ◌/◌, ◌%◌, ◌^◌, ◌<◌, List, [], ◌∷◌, map, length, get_or, set, Bool, false, cond, eqb, ◌⊎◌, inl, inr, refl, ap, sym, ◌∙◌, arith, subst, Fits, w8, get_or-set_other, get_or-set_same, length-set, ◌≢◌}
 use Rattle.std.specs.Prelude.{bit_and, replicate}
 use Rattle.std.specs.Int.{bit_at}
 use Rattle.std.proofs.lemmas.Bool.{cases_lt, eq-eqb, ne_eqb, cond-true, cond-false}

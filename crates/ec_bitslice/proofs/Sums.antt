@@ -1,17 +1,15 @@
 -- Sums of products of lists of coefficients and chunks.
-use Rattle.std.proofs.Common.{◌≡◌, ℕ, zero, suc, ◌+◌, ◌-◌, ◌*◌, ◌/◌, ◌^◌, ◌<◌, ◌≤◌, List, [], ◌∷◌, length, get_or, take, drop, refl, ap, ap₂, sym, ◌∙◌, arith, lit<, add-one, add-zero, zero-add}
+use Rattle.std.proofs.Common.{◌≡◌, ℕ, zero, suc, ◌+◌, ◌-◌, ◌/◌, ◌<◌, ◌≤◌, List, [], ◌∷◌, length, get_or, take, drop, refl, ap, ap₂, sym, ◌∙◌, arith, add-zero}
 use Rattle.std.specs.Prelude.{bit_xor}
 use Rattle.std.specs.Int.Bits.{xor_zero_l, xor_zero_r}
 use Rattle.std.proofs.lemmas.List.{get_or_past, get_or-drop, length-drop}
 use Rattle.std.proofs.Math.Seq.{take-length}
 use Rattle.ec_field.specs.Field.{sum_below, product}
-use Rattle.ec_field.specs.Chunk.{element, zero_chunk}
+use Rattle.ec_field.specs.Chunk.{element}
 use Rattle.ec_field.specs.Code.{chunk_at, combined_element}
-use Rattle.ec_field.proofs.Sums.{sum_ext, sum_zeros}
+use Rattle.ec_field.proofs.Sums.{sum_ext}
 use Rattle.ec_field.proofs.Products.{product-zero_left}
-use Rattle.ec_field.proofs.Elements.{element-zeros}
 use Rattle.ec_bitslice.specs.Group.{horner}
-use Rattle.ec_bitslice.proofs.Lanes.{lane-zeros}
 use Rattle.ec_bitslice.proofs.Horner.{four_terms}
 
 -- the sum of a group from bit 0 on, where its coefficients are the first four of others

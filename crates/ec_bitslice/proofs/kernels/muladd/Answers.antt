@@ -1,10 +1,7 @@
-use Rattle.std.proofs.Common.{◌≡◌, ℕ, ◌+◌, ◌*◌, ◌<◌, ◌≤◌, List, [], ◌∷◌, length, get_or, drop, refl, sym, ap, ap₂, ◌∙◌, arith}
+use Rattle.std.proofs.Common.{ap, ◌∙◌}
 use Rattle.std.specs.Prelude.{bit_xor}
-use Rattle.ec_field.specs.Field.{product}
 use Rattle.ec_field.specs.Chunk.{element}
-use Rattle.ec_field.specs.Code.{combined_element, chunk_at}
-use Rattle.ec_bitslice.specs.Group.{horner}
-use Rattle.ec_bitslice.proofs.Sums.{group_sum, group_single, group_more, combined_past, rest_after}
+use Rattle.ec_bitslice.proofs.Sums.{group_single}
 use Rattle.ec_bitslice.proofs.kernels.muladd.Goals as goal
 
 pub returns-clause-sum : goal.returns-clause-sum

@@ -1,9 +1,6 @@
-use Rattle.std.proofs.Common.{◌≡◌, ℕ, ◌+◌, ◌*◌, ◌/◌, ◌%◌, ◌^◌, ◌<◌, ◌≤◌, List, length, get_or, add-zero, set, refl, sym, ap, ap₂, subst, ◌∙◌, arith}
-use Rattle.std.specs.Int.{bit_at}
-use Rattle.std.proofs.lemmas.Simd.{length-chunk, get_or-chunk, length-replicate}
-use lib.Lanes.{chunk}
-use Rattle.ec_field.specs.Chunk.{element}
-use Rattle.ec_bitslice.proofs.PlaneBits.{mask_fits, mask_bit, bit_value, HasPlanes, planes_none, planes_more, planes_row, planes_packed, same_packed, same_unpacked, unpacked_more}
+use Rattle.std.proofs.Common.{◌≡◌, ℕ, ◌+◌, ◌*◌, add-zero, sym, subst, arith}
+use Rattle.std.proofs.lemmas.Simd.{length-replicate}
+use Rattle.ec_bitslice.proofs.PlaneBits.{HasPlanes, planes_none, planes_more, planes_row, planes_packed, same_packed}
 use Rattle.ec_bitslice.proofs.packing.pack.Goals as goal
 
 pub returns-clause-elements : goal.returns-clause-elements

@@ -1,9 +1,5 @@
-use Rattle.std.proofs.Common.{◌≡◌, ℕ, ◌+◌, ◌*◌, ◌/◌, ◌%◌, ◌^◌, ◌<◌, ◌≤◌, List, length, get_or, add-zero, set, refl, sym, ap, ap₂, subst, ◌∙◌, arith}
-use Rattle.std.specs.Int.{bit_at}
-use Rattle.std.proofs.lemmas.Simd.{length-chunk, get_or-chunk}
-use lib.Lanes.{chunk}
-use Rattle.ec_field.specs.Chunk.{element}
-use Rattle.ec_bitslice.proofs.PlaneBits.{mask_fits, mask_bit, bit_value, HasPlanes, planes_none, planes_more, planes_row, planes_packed, same_packed, same_unpacked, unpacked_more}
+use Rattle.std.proofs.Common.{◌∙◌, arith}
+use Rattle.ec_bitslice.proofs.PlaneBits.{same_unpacked, unpacked_more}
 use Rattle.ec_bitslice.proofs.packing.unpack.Goals as goal
 
 pub returns-clause-elements : goal.returns-clause-elements

@@ -1,8 +1,6 @@
-use Rattle.std.proofs.Common.{◌≡◌, ℕ, ◌+◌, ◌-◌, ◌*◌, ◌/◌, ◌%◌, ◌<◌, ◌≤◌, arith, inl, inr, ap, ap₂, sym, ◌∙◌, refl}
+use Rattle.std.proofs.Common.{◌+◌, ◌-◌, ◌*◌, ◌/◌, ◌%◌, ◌<◌, arith, inl, inr, ap₂, ◌∙◌, refl}
 use Rattle.std.proofs.lemmas.Bool.{cases_lt}
 use Rattle.std.specs.Prelude.{bit_xor}
-use Rattle.ec_field.specs.Chunk.{element, IsChunk}
-use Rattle.ec_bitslice.specs.Group.{horner}
 use Rattle.ec_bitslice.proofs.group.Group.add.Goals as goal
 
 pub returns-clause-sum : goal.returns-clause-sum

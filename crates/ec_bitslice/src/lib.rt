@@ -9,9 +9,11 @@ mod column;
 mod group;
 mod kernels;
 mod packing;
+mod plain;
 
 pub use kernels::{dot, mul_const, muladd};
 pub use packing::{pack, unpack};
+pub use plain::mul_plain;
 
 #[cfg(test)]
 mod tests;

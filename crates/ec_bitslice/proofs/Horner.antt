@@ -1,5 +1,5 @@
 -- Horner's rule over the bits of coefficients.
-use Rattle.std.proofs.Common.{◌≡◌, ℕ, ◌+◌, ◌-◌, ◌*◌, ◌/◌, ◌%◌, ◌^◌, ◌<◌, ◌≤◌, List, [], length, get_or, ◌⊎◌, inl, inr, refl, ap, sym, ◌∙◌, arith, lit<, add-one, zero-add}
+use Rattle.std.proofs.Common.{◌≡◌, ℕ, ◌+◌, ◌-◌, ◌*◌, ◌/◌, ◌%◌, ◌^◌, ◌<◌, ◌≤◌, List, [], length, get_or, ◌⊎◌, inl, inr, refl, ap, ap₂, sym, ◌∙◌, arith, lit<, add-one, zero-add}
 use Rattle.std.specs.Prelude.{bit_xor, bit_and}
 use Rattle.std.specs.Int.{bit_at}
 use Rattle.std.specs.Int.Bits.{xor_shifted, xor_assoc, xor_zero_l, xor_zero_r}
@@ -17,7 +17,7 @@ use Rattle.ec_field.proofs.Tables.{agree_at}
 use Rattle.ec_field.proofs.Products.{product-left, product-zero_left, product-sum_right, product_assoc, one_product}
 use Rattle.ec_field.proofs.Elements.{element_is_byte}
 use Rattle.ec_bitslice.specs.declared.column.Column.{Column}
-use Rattle.ec_bitslice.specs.Column.{lane_element, HasElements}
+use Rattle.ec_bitslice.specs.Column.{lane_element, HasElements, StoresColumn}
 use Rattle.ec_bitslice.specs.Group.{bit_sum, horner}
 
 pub elements-ext : (c : Column) (at : ℕ) (f g : ℕ → ℕ) → HasElements c at f → ((e : ℕ) → f e ≡ g e) → HasElements c at g
@@ -152,4 +152,20 @@ pub starts : (first : Column) (at : ℕ) (coefficients : List ℕ) (chunks : Lis
     → ((x k : ℕ) → lane_element first x k ≡ 0) → HasElements first at (horner coefficients chunks 8)
 starts first at coefficients chunks bytes none = record {
   each = λ e from to. none (e / 8 - at) (e % 8) ∙ sym (horner_none coefficients chunks 8 e bytes);
+}
+
+-- The elements in the columns that begin below byte `at` of each plane are f e.
+pub record PutBelow (at : ℕ) (f : ℕ → ℕ) (sum : List ℕ) : Type 0 where
+  pub each : (e : ℕ) → e / 8 < at → element sum e ≡ f e
+
+pub put_none : (f : ℕ → ℕ) (sum : List ℕ) → PutBelow 0 f sum
+put_none f sum = record { each = λ e h. absurd (omega arith) }
+
+pub put_more : (c : Column) (at : ℕ) (f : ℕ → ℕ) (old new : List ℕ) → HasElements c at f → StoresColumn c at old new → PutBelow at f old → PutBelow (at + 16) f new
+put_more c at f old new has stores below = record {
+  each = λ e h.
+    elim (cases_lt (e / 8) at) [
+      inl before ↦ stores.below e before ∙ below.each e before
+    | inr here ↦ stores.within e here h ∙ has.each e here h
+    ]
 }

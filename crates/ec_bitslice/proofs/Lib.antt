@@ -3,3 +3,4 @@ pub mod Columns
 pub mod Horner
 pub mod Sums
 pub mod PlaneBits
+pub mod SumColumns

@@ -1,7 +1,7 @@
 -- Sums of products of lists of coefficients and chunks.
-use Rattle.std.proofs.Common.{◌≡◌, ℕ, zero, suc, ◌+◌, ◌-◌, ◌/◌, ◌<◌, ◌≤◌, List, [], ◌∷◌, length, get_or, take, drop, refl, ap, ap₂, sym, ◌∙◌, arith, add-zero}
+use Rattle.std.proofs.Common.{◌≡◌, ℕ, zero, suc, ◌+◌, ◌-◌, ◌*◌, ◌/◌, ◌^◌, ◌<◌, ◌≤◌, List, [], ◌∷◌, length, get_or, take, drop, refl, ap, ap₂, sym, ◌∙◌, arith, add-one, add-zero}
 use Rattle.std.specs.Prelude.{bit_xor}
-use Rattle.std.specs.Int.Bits.{xor_zero_l, xor_zero_r}
+use Rattle.std.specs.Int.Bits.{xor_assoc, xor_zero_l, xor_zero_r}
 use Rattle.std.proofs.lemmas.List.{get_or_past, get_or-drop, length-drop}
 use Rattle.std.proofs.Math.Seq.{take-length}
 use Rattle.ec_field.specs.Field.{sum_below, product}
@@ -27,12 +27,6 @@ group_sum coefficients others group chunks e same is = rw is (horner_whole coeff
 -- the term of a chunk that is not there
 term_past : (coefficients : List ℕ) (chunks : List (List ℕ)) (e j : ℕ) → length coefficients ≤ j → product (get_or coefficients j 0) (element (chunk_at chunks j) e) ≡ 0
 term_past coefficients chunks e j past = rw (get_or_past coefficients j 0 past) (product-zero_left (element (chunk_at chunks j) e))
-
-pub single : (a : ℕ) (chunk : List ℕ) (e : ℕ) → combined_element 4 (λ j. get_or (a ∷ []) j 0) (chunk ∷ []) e ≡ product a (element chunk e)
-unfolding sum_below
-single a chunk e =
-    let none = product-zero_left (element [] e) in
-    rw (none, xor_zero_l (product a (element chunk e)), xor_zero_r (product a (element chunk e)), xor_zero_r (product a (element chunk e)), xor_zero_r (product a (element chunk e))) refl
 
 sum_past : (k m : ℕ) (f : ℕ → ℕ) → ((j : ℕ) → k ≤ j → f j ≡ 0) → sum_below (k + m) f ≡ sum_below k f
 unfolding sum_below
@@ -71,6 +65,12 @@ combined_more coefficients chunks e n =
     (λ j h. rw (get_or-drop n coefficients j 0, get_or-drop n chunks j []) refl))
     ∙ four_more n f
 
+single : (a : ℕ) (chunk : List ℕ) (e : ℕ) → combined_element 4 (λ j. get_or (a ∷ []) j 0) (chunk ∷ []) e ≡ product a (element chunk e)
+unfolding sum_below
+single a chunk e =
+    let none = product-zero_left (element [] e) in
+    rw (none, xor_zero_l (product a (element chunk e)), xor_zero_r (product a (element chunk e)), xor_zero_r (product a (element chunk e)), xor_zero_r (product a (element chunk e))) refl
+
 pub group_single : (coefficients : List ℕ) (group : List (List ℕ)) (a : ℕ) (chunk : List ℕ) (e : ℕ) → ((j : ℕ) → j < 4 → get_or coefficients j 0 ≡ get_or (a ∷ []) j 0) → group ≡ chunk ∷ []
     → horner coefficients group 0 e ≡ product a (element chunk e)
 group_single coefficients group a chunk e same is = group_sum coefficients (a ∷ []) group (chunk ∷ []) e same is ∙ single a chunk e
@@ -84,3 +84,8 @@ group_more coefficients all group chunks e n old new same is before sum =
 -- what `&xs[n..]` is
 pub rest_after : {A : Type 0} (n : ℕ) (xs : List A) → take (length xs - n) (drop n xs) ≡ drop n xs
 rest_after n xs = ap (λ k. take k (drop n xs)) (sym (length-drop n xs)) ∙ take-length (drop n xs)
+
+-- one chunk alone
+pub alone : (a : ℕ) (chunk : List ℕ) (chunks : List (List ℕ)) (e : ℕ) → chunks ≡ chunk ∷ [] → combined_element 1 (λ j. get_or (a ∷ []) j 0) chunks e ≡ product a (element chunk e)
+unfolding sum_below
+alone a chunk chunks e is = rw (is, xor_zero_l (product a (element chunk e))) refl

@@ -1,12 +1,12 @@
 // Up to four chunks with their coefficients, whose sum shares its doublings.
 ghost use Rattle.std.specs.Int.{bit_at};
 ghost use Rattle.std.specs.Prelude.{◌≡◌, ℕ, ◌+◌, ◌*◌, ◌^◌, ◌<◌, ◌≤◌, length, slice_index, bit_xor};
-ghost use Rattle.ec_field.specs.Chunk.{element, IsChunk};
-ghost use Rattle.ec_field.specs.Code.{combined_element, chunk_at};
+ghost use Rattle.ec_field.specs.Chunk.{element};
+ghost use Rattle.ec_field.specs.Code.{chunk_at};
 ghost use Rattle.ec_bitslice.specs.Column.{HasElements};
 ghost use Rattle.ec_bitslice.specs.Group.{bit_sum, horner};
 
-use crate::column::{COLUMNS, Column, LANES};
+use crate::column::Column;
 use ec_field::Chunk;
 
 /// The chunks of a group.
@@ -96,7 +96,7 @@ impl<'a> Group<'a> {
     /// The sum of the products of a column, from the highest bit of the coefficients down.
     // One copy for all columns: their tests are the same, so that each teaches the processor the next.
     #[inline(never)]
-    fn combined(&self, at: usize) -> Column
+    pub(crate) fn combined(&self, at: usize) -> Column
         requires { at + 16 ≤ 64 }
         ensures { HasElements result at (horner self.now.coefficients self.now.chunks.now 0) }
     {
@@ -108,29 +108,5 @@ impl<'a> Group<'a> {
         let sum = self.step(sum, 2, at);
         let sum = self.step(sum, 1, at);
         self.step(sum, 0, at)
-    }
-
-    /// Writes the sum of the products.
-    #[inline(always)]
-    pub(crate) fn put(&self, sum: &mut Chunk)
-        ensures sum { (e : ℕ) → e < 512 → element sum.new e ≡ horner self.now.coefficients self.now.chunks.now 0 e }
-        ensures chunk { IsChunk sum.new }
-    {
-        for column in 0..COLUMNS {
-            let at = LANES * column;
-            self.combined(at).store(at, sum);
-        }
-    }
-
-    /// Adds the sum of the products.
-    #[inline(always)]
-    pub(crate) fn add(&self, sum: &mut Chunk)
-        ensures sum { (e : ℕ) → e < 512 → element sum.new e ≡ bit_xor (element sum.old e) (horner self.now.coefficients self.now.chunks.now 0 e) }
-        ensures chunk { IsChunk sum.new }
-    {
-        for column in 0..COLUMNS {
-            let at = LANES * column;
-            Column::load(sum, at).plus(self.combined(at)).store(at, sum);
-        }
     }
 }

@@ -1,31 +1,34 @@
-use Rattle.std.proofs.Common.{◌≡◌, ℕ, ◌+◌, ◌*◌, ◌<◌, get_or, drop, ap, ◌∙◌, arith}
+use Rattle.std.proofs.Common.{ℕ, ◌*◌, ◌/◌, ◌+◌, ◌<◌, length, get_or, arith}
 use Rattle.ec_field.specs.Code.{combined_element}
-use Rattle.ec_bitslice.proofs.Sums.{group_sum, group_more, combined_past, rest_after}
+use Rattle.ec_bitslice.specs.declared.column.Column.{Column}
+use Rattle.ec_bitslice.specs.Column.{HasElements}
+use Rattle.ec_bitslice.specs.Group.{horner}
+use Rattle.ec_bitslice.proofs.SumColumns.{column_starts}
+use Rattle.ec_bitslice.proofs.Horner.{put_none, put_more}
 use Rattle.ec_bitslice.proofs.kernels.dot.Goals as goal
 
-pub returns-clause-sum : goal.returns-clause-sum
-returns-clause-sum c = λ e h.
-    c.loop-four.invariant.sum e h ∙ combined_past c.args.coeffs.now c.args.chunks.now e (4 * c.loop-four.four) (omega (arith, c.div_ceil-four-end.ensures))
-
-pub loop-four-init : goal.loop-four-init
-loop-four-init c = record {
-  sum = λ e h.
-      c.put.ensures.sum e h ∙ group_sum c.new.result.coefficients c.args.coeffs.now c.new.result.chunks.now c.args.chunks.now e c.new.ensures.coefficients c.new.ensures.chunks;
-  chunk = c.put.ensures.chunk;
-}
-
-pub loop-four-preserved : goal.loop-four-preserved
-loop-four-preserved c =
-    let n : ℕ = 4 * c.loop-four.four in
-    let coefficients = c.new-in-loop-four.result.coefficients in
-    let rest = rest_after n c.args.coeffs.now in
-    let same : (j : ℕ) → j < 4 → get_or coefficients j 0 ≡ get_or (drop n c.args.coeffs.now) j 0 =
-    λ j l. c.new-in-loop-four.ensures.coefficients j l ∙ ap (λ xs. get_or xs j 0) rest in
-    let more : n + 4 ≡ 4 * (c.loop-four.four + 1) = omega arith in
+pub add_others-requires : goal.add_others-requires
+add_others-requires c =
+    let group = c.new-first.result in
+    let starts = λ (at : ℕ) (col : Column) (h : HasElements col at (horner group.coefficients group.chunks.now 0)).
+          column_starts col at group.coefficients c.args.coeffs.now group.chunks.now c.args.chunks.now c.new-first.ensures.coefficients c.new-first.ensures.chunks h in
     record {
-      sum = λ e h.
-          group_more coefficients c.args.coeffs.now c.new-in-loop-four.result.chunks.now c.args.chunks.now e n _ _ same (c.new-in-loop-four.ensures.chunks ∙ rest_after n c.args.chunks.now)
-          (c.loop-four.invariant.sum e h) (c.add.ensures.sum e h)
-          ∙ ap (λ m. combined_element m (λ j. get_or c.args.coeffs.now j 0) c.args.chunks.now e) more;
-      chunk = c.add.ensures.chunk;
+      lengths = c.requires;
+      a = starts 0 c.combined-a.result c.combined-a.ensures;
+      b = starts 16 c.combined-b.result c.combined-b.ensures;
+      c = starts 32 c.combined-c.result c.combined-c.ensures;
+      d = starts 48 c.combined-d.result c.combined-d.ensures;
     }
+
+pub returns-clause-sum : goal.returns-clause-sum
+returns-clause-sum c =
+    let f : ℕ → ℕ = combined_element (length c.args.coeffs.now) (λ j. get_or c.args.coeffs.now j 0) c.args.chunks.now in
+    let zero = c.zero-sum.result in
+    let first = put_more c.add_others.new.a 0 f zero c.store.new.chunk c.add_others.ensures.a c.store.ensures (put_none f zero) in
+    let second = put_more c.add_others.new.b 16 f c.store.new.chunk c.store-2.new.chunk c.add_others.ensures.b c.store-2.ensures first in
+    let third = put_more c.add_others.new.c 32 f c.store-2.new.chunk c.store-3.new.chunk c.add_others.ensures.c c.store-3.ensures second in
+    let fourth = put_more c.add_others.new.d 48 f c.store-3.new.chunk c.store-4.new.chunk c.add_others.ensures.d c.store-4.ensures third in
+    λ e h. fourth.each e (omega arith)
+
+pub returns-clause-chunk : goal.returns-clause-chunk
+returns-clause-chunk c = c.store-4.ensures.chunk

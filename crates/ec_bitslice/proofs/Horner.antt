@@ -1,5 +1,5 @@
 -- Horner's rule over the bits of coefficients.
-use Rattle.std.proofs.Common.{◌≡◌, ℕ, ◌+◌, ◌-◌, ◌*◌, ◌/◌, ◌%◌, ◌^◌, ◌<◌, ◌≤◌, List, [], length, get_or, ◌⊎◌, inl, inr, refl, ap, ap₂, sym, ◌∙◌, arith, lit<, add-one, zero-add}
+use Rattle.std.proofs.Common.{◌≡◌, ℕ, ◌+◌, ◌-◌, ◌*◌, ◌/◌, ◌%◌, ◌^◌, ◌<◌, ◌≤◌, List, [], length, get_or, ◌⊎◌, inl, inr, refl, ap, sym, ◌∙◌, arith, lit<, add-one, zero-add}
 use Rattle.std.specs.Prelude.{bit_xor, bit_and}
 use Rattle.std.specs.Int.{bit_at}
 use Rattle.std.specs.Int.Bits.{xor_shifted, xor_assoc, xor_zero_l, xor_zero_r}
@@ -164,8 +164,8 @@ put_none f sum = record { each = λ e h. absurd (omega arith) }
 pub put_more : (c : Column) (at : ℕ) (f : ℕ → ℕ) (old new : List ℕ) → HasElements c at f → StoresColumn c at old new → PutBelow at f old → PutBelow (at + 16) f new
 put_more c at f old new has stores below = record {
   each = λ e h.
-    elim (cases_lt (e / 8) at) [
-      inl before ↦ stores.below e before ∙ below.each e before
-    | inr here ↦ stores.within e here h ∙ has.each e here h
-    ]
+      elim (cases_lt (e / 8) at) [
+        | inl before ↦ stores.below e before ∙ below.each e before
+        | inr here ↦ stores.within e here h ∙ has.each e here h
+      ];
 }

@@ -25,9 +25,9 @@ column_more old part new at four n coefficients all group chunks count same is p
     let first : (j : ℕ) → j < 4 → get_or coefficients j 0 ≡ get_or (drop n all) j 0 = λ j l. same j l ∙ ap (λ xs. get_or xs j 0) (rest_after n all) in
     let more : n + 4 ≡ 4 * (four + 1) = omega arith in
     elements-ext new at (λ e. bit_xor (f e) (g e)) (combined_element (4 * (four + 1)) (λ j. get_or all j 0) chunks)
-      (elements-plus old part new at f g plus before own)
-      (λ e. group_more coefficients all group chunks e n (f e) (bit_xor (f e) (g e)) first (is ∙ rest_after n chunks) refl refl
-        ∙ ap (λ m. combined_element m (λ j. get_or all j 0) chunks e) more)
+    (elements-plus old part new at f g plus before own)
+    (λ e. group_more coefficients all group chunks e n (f e) (bit_xor (f e) (g e)) first (is ∙ rest_after n chunks) refl refl
+    ∙ ap (λ m. combined_element m (λ j. get_or all j 0) chunks e) more)
 
 pub column_ends : (c : Column) (at n : ℕ) (all : List ℕ) (chunks : List (List ℕ)) → length all ≤ n
     → HasElements c at (combined_element n (λ j. get_or all j 0) chunks) → HasElements c at (combined_element (length all) (λ j. get_or all j 0) chunks)

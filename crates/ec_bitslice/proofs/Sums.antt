@@ -1,7 +1,7 @@
 -- Sums of products of lists of coefficients and chunks.
-use Rattle.std.proofs.Common.{◌≡◌, ℕ, zero, suc, ◌+◌, ◌-◌, ◌*◌, ◌/◌, ◌^◌, ◌<◌, ◌≤◌, List, [], ◌∷◌, length, get_or, take, drop, refl, ap, ap₂, sym, ◌∙◌, arith, add-one, add-zero}
+use Rattle.std.proofs.Common.{◌≡◌, ℕ, zero, suc, ◌+◌, ◌-◌, ◌/◌, ◌<◌, ◌≤◌, List, [], ◌∷◌, length, get_or, take, drop, refl, ap, ap₂, sym, ◌∙◌, arith, add-zero}
 use Rattle.std.specs.Prelude.{bit_xor}
-use Rattle.std.specs.Int.Bits.{xor_assoc, xor_zero_l, xor_zero_r}
+use Rattle.std.specs.Int.Bits.{xor_zero_l, xor_zero_r}
 use Rattle.std.proofs.lemmas.List.{get_or_past, get_or-drop, length-drop}
 use Rattle.std.proofs.Math.Seq.{take-length}
 use Rattle.ec_field.specs.Field.{sum_below, product}

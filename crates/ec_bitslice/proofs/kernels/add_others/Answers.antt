@@ -1,4 +1,4 @@
-use Rattle.std.proofs.Common.{◌≡◌, ℕ, ◌*◌, arith, refl}
+use Rattle.std.proofs.Common.{ℕ, ◌*◌, arith, refl}
 use Rattle.ec_bitslice.proofs.SumColumns.{column_more, column_ends}
 use Rattle.ec_bitslice.proofs.kernels.add_others.Goals as goal
 

@@ -1,4 +1,4 @@
-use Rattle.std.proofs.Common.{ℕ, ◌*◌, get_or}
+use Rattle.std.proofs.Common.{◌*◌, get_or}
 use Rattle.ec_field.specs.Code.{combined_element}
 use Rattle.ec_bitslice.specs.Column.{HasElements}
 use Rattle.ec_bitslice.proofs.kernels.add_others.Given as goal

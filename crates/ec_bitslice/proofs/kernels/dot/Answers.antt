@@ -1,4 +1,4 @@
-use Rattle.std.proofs.Common.{ℕ, ◌*◌, ◌/◌, ◌+◌, ◌<◌, length, get_or, arith}
+use Rattle.std.proofs.Common.{ℕ, length, get_or, arith}
 use Rattle.ec_field.specs.Code.{combined_element}
 use Rattle.ec_bitslice.specs.declared.column.Column.{Column}
 use Rattle.ec_bitslice.specs.Column.{HasElements}
@@ -11,7 +11,7 @@ pub add_others-requires : goal.add_others-requires
 add_others-requires c =
     let group = c.new-first.result in
     let starts = λ (at : ℕ) (col : Column) (h : HasElements col at (horner group.coefficients group.chunks.now 0)).
-          column_starts col at group.coefficients c.args.coeffs.now group.chunks.now c.args.chunks.now c.new-first.ensures.coefficients c.new-first.ensures.chunks h in
+    column_starts col at group.coefficients c.args.coeffs.now group.chunks.now c.args.chunks.now c.new-first.ensures.coefficients c.new-first.ensures.chunks h in
     record {
       lengths = c.requires;
       a = starts 0 c.combined-a.result c.combined-a.ensures;

@@ -54,6 +54,7 @@ fn time<P: RowTimes, S: RowTimes, G: RowTimes>(
     measure(rt, &work, more, "dot", fused, 200)
 }
 
+/// Runs three kernels, each in a bank of its own, for their bytes or for their speed.
 pub fn run<P: Multiply, S: Multiply, G: Combine>(
     rt: &HostRuntime,
     is_timed: bool,

@@ -84,6 +84,7 @@ pub fn digest(stripes: &[Vec<Chunk>]) -> u32 {
 }
 
 impl Work {
+    /// `count` stripes of k chunks for n bricks.
     pub fn new(alloc: Global, k: u8, n: u8, count: u32) -> Result<Work, AllocError>
         requires least { 2 ≤ k }
         requires most { k ≤ 16 }

@@ -63,8 +63,8 @@ pub fn muladd(a: u8, c: &Chunk, acc: &mut Chunk)
     }
 }
 
-/// The sum of the chunks, each times its coefficient.
 // The columns are all made before they are stored, so that the zeros need not be written at all.
+/// The sum of the chunks, each times its coefficient.
 pub fn dot(coeffs: &[u8], chunks: &[Chunk]) -> Chunk
     requires { length coeffs.now ≡ length chunks.now }
     ensures sum { (e : ℕ) → e < 512 → element result e ≡ combined_element (length coeffs.now) (λ j. slice_index coeffs.now j) chunks.now e }

@@ -13,7 +13,7 @@ use ec_field::Chunk;
 pub(crate) const FOUR: usize = 4;
 
 /// Up to four chunks, the first of `chunks`, with a coefficient for each. Where there are fewer, the other
-/// coefficients are 0. Four keep their coefficients in registers.
+/// coefficients are 0.
 #[derive(Drop)]
 pub(crate) struct Group<'a> {
     coefficients: [u8; FOUR],
@@ -50,16 +50,17 @@ impl<'a> Group<'a> {
         }
     }
 
-    /// Adds chunk j where bit i of its coefficient is set.
+    /// Adds chunk j where bit i of its coefficient is set. `chunks` are those of the group, here and below.
     #[inline(always)]
-    fn plus_if(&self, sum: Column, j: usize, i: u32, at: usize) -> Column
+    fn plus_if(&self, chunks: &[Chunk], sum: Column, j: usize, i: u32, at: usize) -> Column
+        requires same { chunks.now ≡ self.now.chunks.now }
         requires chunk { j < 4 }
         requires bit { i < 8 }
         requires room { at + 16 ≤ 64 }
-        ensures { (f : ℕ → ℕ) → HasElements sum at f → HasElements result at (λ e. bit_xor (f e) (bit_at (slice_index self.now.coefficients j) i * element (chunk_at self.now.chunks.now j) e)) }
+        ensures { (f : ℕ → ℕ) → HasElements sum at f → HasElements result at (λ e. bit_xor (f e) (bit_at (slice_index self.now.coefficients j) i * element (chunk_at chunks.now j) e)) }
     {
         if self.coefficients[j] >> i & 1 == 1 {
-            sum.plus(Column::load(&self.chunks[j], at))
+            sum.plus(Column::load(&chunks[j], at))
         } else {
             sum
         }
@@ -67,29 +68,31 @@ impl<'a> Group<'a> {
 
     /// Adds each chunk whose coefficient has bit i.
     #[inline(always)]
-    fn plus_bit(&self, sum: Column, i: u32, at: usize) -> Column
+    fn plus_bit(&self, chunks: &[Chunk], sum: Column, i: u32, at: usize) -> Column
+        requires same { chunks.now ≡ self.now.chunks.now }
         requires bit { i < 8 }
         requires room { at + 16 ≤ 64 }
-        ensures { (f : ℕ → ℕ) → HasElements sum at f → HasElements result at (λ e. bit_xor (f e) (bit_sum self.now.coefficients self.now.chunks.now i e)) }
+        ensures { (f : ℕ → ℕ) → HasElements sum at f → HasElements result at (λ e. bit_xor (f e) (bit_sum self.now.coefficients chunks.now i e)) }
     {
-        let sum = self.plus_if(sum, 0, i, at);
-        let sum = self.plus_if(sum, 1, i, at);
-        let sum = self.plus_if(sum, 2, i, at);
-        self.plus_if(sum, 3, i, at)
+        let sum = self.plus_if(chunks, sum, 0, i, at);
+        let sum = self.plus_if(chunks, sum, 1, i, at);
+        let sum = self.plus_if(chunks, sum, 2, i, at);
+        self.plus_if(chunks, sum, 3, i, at)
     }
 
     /// A step of Horner's rule, from the bits above i to those from i on.
     #[inline(always)]
-    fn step(&self, sum: Column, i: u32, at: usize) -> Column
+    fn step(&self, chunks: &[Chunk], sum: Column, i: u32, at: usize) -> Column
+        requires same { chunks.now ≡ self.now.chunks.now }
         requires bit { i < 8 }
         requires room { at + 16 ≤ 64 }
-        requires above { HasElements sum at (horner self.now.coefficients self.now.chunks.now (i + 1)) }
-        ensures { HasElements result at (horner self.now.coefficients self.now.chunks.now i) }
+        requires above { HasElements sum at (horner self.now.coefficients chunks.now (i + 1)) }
+        ensures { HasElements result at (horner self.now.coefficients chunks.now i) }
     {
         if self.largest >> i == 0 {
             sum
         } else {
-            self.plus_bit(sum.doubled(), i, at)
+            self.plus_bit(chunks, sum.doubled(), i, at)
         }
     }
 
@@ -100,13 +103,15 @@ impl<'a> Group<'a> {
         requires { at + 16 ≤ 64 }
         ensures { HasElements result at (horner self.now.coefficients self.now.chunks.now 0) }
     {
-        let sum = self.step(Column::zero(), 7, at);
-        let sum = self.step(sum, 6, at);
-        let sum = self.step(sum, 5, at);
-        let sum = self.step(sum, 4, at);
-        let sum = self.step(sum, 3, at);
-        let sum = self.step(sum, 2, at);
-        let sum = self.step(sum, 1, at);
-        self.step(sum, 0, at)
+        // Taken once here, so that each step need not read where the chunks are.
+        let chunks = self.chunks;
+        let sum = self.step(chunks, Column::zero(), 7, at);
+        let sum = self.step(chunks, sum, 6, at);
+        let sum = self.step(chunks, sum, 5, at);
+        let sum = self.step(chunks, sum, 4, at);
+        let sum = self.step(chunks, sum, 3, at);
+        let sum = self.step(chunks, sum, 2, at);
+        let sum = self.step(chunks, sum, 1, at);
+        self.step(chunks, sum, 0, at)
     }
 }

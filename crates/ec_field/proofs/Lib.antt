@@ -7,3 +7,4 @@ pub mod Powers
 pub mod Elements
 pub mod Steps
 pub mod Planes
+pub mod Lanes

@@ -2,6 +2,8 @@
 ghost use Rattle.std.specs.Prelude.{◌≡◌, ◌<◌};
 ghost use Rattle.ec_field.specs.Chunk.{element, zero_chunk, IsChunk};
 
+mod lanes;
+
 use std::marker::Model;
 
 /// 512 bytes: what one brick keeps of a stripe, or one part of the stripe itself. As elements of the field it is

@@ -44,13 +44,13 @@ pub fn obey_line<T: RowTimes, O: Sink>(
     ensures ready { OnOk result (IsReady g.now.n (g.now.n - g.now.r) player.new (number + 1)) }
     ensures ok { OnOk result ((s : State) → Stands g.now.n (g.now.n - g.now.r) g.now.algorithm player.old bricks.old.items s
         → Obeys g.now.n (g.now.n - g.now.r) g.now.algorithm player.new bricks.new.items (O.written out.old) (O.written out.new)
-            (step_line g.now.n (g.now.n - g.now.r) s number line.now)) }
+        (step_line g.now.n (g.now.n - g.now.r) s number line.now)) }
     ensures unbuilt { IsErrOf result Stop.Unbuilt → (s : State) → Stands g.now.n (g.now.n - g.now.r) g.now.algorithm player.old bricks.old.items s
         → Refuses g.now.n (g.now.n - g.now.r) g.now.algorithm bricks.new.items (O.written out.old) (O.written out.new) s
-            (step_line g.now.n (g.now.n - g.now.r) s number line.now) }
+        (step_line g.now.n (g.now.n - g.now.r) s number line.now) }
     ensures err { OnErr result ((s : State) → Stands g.now.n (g.now.n - g.now.r) g.now.algorithm player.old bricks.old.items s
         → Fails g.now.n (g.now.n - g.now.r) g.now.algorithm bricks.new.items (O.written out.old) (O.written out.new) s
-            (step_line g.now.n (g.now.n - g.now.r) s number line.now)) }
+        (step_line g.now.n (g.now.n - g.now.r) s number line.now)) }
     ensures told { is_some (O.written out.new) ≡ is_some (O.written out.old) }
     ensures later { O.faults out.old ≤ O.faults out.new }
     ensures cause { IsErrOf result Stop.WriteFault → Rose (O.faults out.old) (O.faults out.new) }

@@ -46,7 +46,7 @@ fn settle_write<T: RowTimes, O: Sink>(
     ensures err { OnErr result ((file : File) → IsFile file → IsCoded g.now.n (g.now.n - g.now.r) g.now.algorithm bricks.old.items file → size ≡ file.size
         → (Keeps (O.written out.old) (O.written out.new) × IsCoded g.now.n (g.now.n - g.now.r) g.now.algorithm bricks.new.items file)
         ⊎ (Begins (O.written out.old) (O.written out.new) (size_line call (written file off bytes.now).size)
-            × IsCoded g.now.n (g.now.n - g.now.r) g.now.algorithm bricks.new.items (written file off bytes.now))) }
+        × IsCoded g.now.n (g.now.n - g.now.r) g.now.algorithm bricks.new.items (written file off bytes.now))) }
     ensures told { is_some (O.written out.new) ≡ is_some (O.written out.old) }
     ensures later { O.faults out.old ≤ O.faults out.new }
     ensures cause { IsErrOf result WriteError.WriteFault → Rose (O.faults out.old) (O.faults out.new) }

@@ -423,3 +423,20 @@ fn many_lines(rt: HostRuntime) -> Result<(), Fail> {
         bad(1_048_577),
     )
 }
+
+/// The number with which the program ends, and the text after its name.
+#[test]
+fn statuses(rt: HostRuntime) -> Result<(), Fail> {
+    for (status, number, text) in [
+        (Status::Done, 0, "done"),
+        (bad(2), 1, "script line 2: unbuilt"),
+        (Status::BadWords, 3, "bad words"),
+        (Status::ReadFault, 4, "read fault"),
+        (Status::WriteFault, 5, "write fault"),
+        (Status::NoMemory, 8, "no memory"),
+    ] {
+        assert_eq!(rt; status.number(), number, "{text}");
+        assert_eq!(rt; format!(in rt.alloc(); "{status}")?.as_str(), text);
+    }
+    Ok(())
+}

@@ -8,6 +8,8 @@ ghost use Rattle.std.specs.Prelude.{◌≡◌, ℕ, [], vec_len, IfOk};
 ghost use Rattle.ec_run.specs.File.{fragment_at};
 
 mod streams;
+#[cfg(test)]
+mod tests;
 
 use crate::streams::{Reading, Writing};
 use ec_run::{PlainBrick, Status, run};

@@ -1,21 +1,24 @@
-// The program: the script on standard input, the answers on standard output.
+// The program: the volume file and the brick folders of the current folder, the script on standard input, the answers on
+// standard output.
 //
-// It hands the top call three bricks in memory, which are gone when it ends, and tells on standard error how a run that
-// isn't done ended. What standard input and output give and take no clause says.
+// It hands the top call bricks in memory, which are gone when it ends, and tells on standard error how a run that isn't
+// done ended. What the file system and standard input give and standard output takes no clause says.
 #![tactic(auto)]
 
-ghost use Rattle.std.specs.Prelude.{◌≡◌, ℕ, [], vec_len, IfOk};
-ghost use Rattle.ec_run.specs.File.{fragment_at};
-
+mod bricks;
 mod streams;
 #[cfg(test)]
 mod tests;
+mod volume;
 
+use crate::bricks::bricks_of_folders;
 use crate::streams::{Reading, Writing};
-use ec_run::{PlainBrick, Status, run};
+use crate::volume::volume_file;
+use ec_run::{Status, run};
 use std::alloc::{AllocError, Global};
 use std::env::Env;
 use std::process::ExitCode;
+use std::rt::Files;
 use std::{env, io};
 
 fn main(rt: HostRuntime) -> ExitCode {
@@ -27,18 +30,20 @@ fn main(rt: HostRuntime) -> ExitCode {
 }
 
 /// Runs the words of the command line; where they can't be had, memory ran out.
-fn run_program(rt: &(impl Env + Input + Print + AllocGlobal)) -> Status {
+fn run_program(rt: &(impl Env + Files + Input + Print + AllocGlobal)) -> Status {
     let Ok(words) = words(rt) else {
         return Status::NoMemory;
     };
-    let (Ok(words), Ok(mut bricks)) = (lent(rt.alloc(), &words), three_bricks(rt.alloc())) else {
+    let (Ok(words), Ok(mut bricks)) = (lent(rt.alloc(), &words), bricks_of_folders(rt)) else {
         return Status::NoMemory;
     };
+    let mut volume = volume_file(rt);
     let mut script = Reading::new(rt.reader());
     let mut out = Writing::new(io::writer(rt));
     run(
         rt.alloc(),
         words.as_slice(),
+        &mut volume,
         &mut script,
         &mut out,
         &mut bricks,
@@ -60,15 +65,4 @@ fn lent(alloc: Global, words: &Vec<String>) -> Result<Vec<&str>, AllocError> {
         texts.push(word.as_str())?;
     }
     Ok(texts)
-}
-
-fn three_bricks(alloc: Global) -> Result<Vec<PlainBrick>, AllocError>
-    ensures three { IfOk result (λ bricks. vec_len bricks ≡ 3) }
-    ensures fresh { IfOk result (λ bricks. (b : ℕ) → fragment_at bricks.items b ≡ []) }
-{
-    let mut bricks = Vec::with_capacity(alloc, 3)?;
-    for _ in 0..3usize {
-        bricks.push(PlainBrick::new(alloc))?;
-    }
-    Ok(bricks)
 }

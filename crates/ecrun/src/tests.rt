@@ -1,10 +1,12 @@
 // The top call over sources and sinks in memory. What is wanted is worked out by hand from the rules of the script.
 mod faults;
 mod memory;
+mod volumes;
 
+use crate::bricks::empty_bricks;
 use crate::tests::memory::{MemorySink, MemorySource};
-use crate::three_bricks;
-use ec_run::{ScriptWhy, Status, run};
+use ec_run::{BricksWhy, ScriptWhy, Status, run};
+use ec_volfile::VolumeFault;
 use std::alloc::{AllocError, Global};
 use std::process::Abort;
 use std::test::Fail;
@@ -23,14 +25,26 @@ fn joined(alloc: Global, texts: &[(&str, usize)]) -> Result<Vec<u8>, AllocError>
     Ok(bytes)
 }
 
+/// A volume of three bricks, of which any two read the file.
+const TWO_OF_THREE: &[u8] =
+    b"volume v\ntype cluster/disperse\noption redundancy 1\nsubvolumes a b c\nend-volume\n";
+
 /// Plays a script over three empty bricks.
 fn play(
     alloc: Global,
     source: &mut MemorySource<'_>,
     sink: &mut MemorySink,
 ) -> Result<Status, AllocError> {
-    let mut bricks = three_bricks(alloc)?;
-    Ok(run(alloc, &["play"], source, sink, &mut bricks))
+    let mut volume = MemorySource::new(TWO_OF_THREE, ALL);
+    let mut bricks = empty_bricks(alloc, 3)?;
+    Ok(run(
+        alloc,
+        &["play"],
+        &mut volume,
+        source,
+        sink,
+        &mut bricks,
+    ))
 }
 
 /// Plays a script, `most` bytes at a time, that is to end so and to write these texts.
@@ -97,12 +111,20 @@ fn empty_scripts(rt: HostRuntime) -> Result<(), Fail> {
 
 /// Words that aren't exactly `play` are refused before a byte is read or written.
 fn refuses_words(rt: &(impl Abort + AllocGlobal), words: &[&str]) -> Result<(), Fail> {
-    let mut bricks = three_bricks(rt.alloc())?;
+    let mut bricks = empty_bricks(rt.alloc(), 3)?;
+    let mut volume = MemorySource::new(TWO_OF_THREE, ALL);
     let mut source = MemorySource::new(b"call 1 write 2 0 41*1024\nsettle\n", ALL);
     let mut sink = MemorySink::new(rt.alloc(), ALL);
-    let status = run(rt.alloc(), words, &mut source, &mut sink, &mut bricks);
+    let status = run(
+        rt.alloc(),
+        words,
+        &mut volume,
+        &mut source,
+        &mut sink,
+        &mut bricks,
+    );
     assert_eq!(rt; status, Status::BadWords, "{words:?}");
-    assert_eq!(rt; (source.reads, sink.writes), (0, 0), "{words:?}");
+    assert_eq!(rt; (volume.reads, source.reads, sink.writes), (0, 0, 0), "{words:?}");
     Ok(())
 }
 
@@ -430,9 +452,22 @@ fn statuses(rt: HostRuntime) -> Result<(), Fail> {
     for (status, number, text) in [
         (Status::Done, 0, "done"),
         (bad(2), 1, "script line 2: unbuilt"),
+        (
+            Status::BadVolume {
+                line: 9,
+                why: VolumeFault::BadGeometry { n: 4, r: 2 },
+            },
+            2,
+            "volume line 9: badgeometry 4 2",
+        ),
         (Status::BadWords, 3, "bad words"),
         (Status::ReadFault, 4, "read fault"),
         (Status::WriteFault, 5, "write fault"),
+        (
+            Status::WrongBricks(BricksWhy::Count { have: 5, want: 6 }),
+            6,
+            "wrong bricks: count 5 6",
+        ),
         (Status::NoMemory, 8, "no memory"),
     ] {
         assert_eq!(rt; status.number(), number, "{text}");

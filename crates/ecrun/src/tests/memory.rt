@@ -27,6 +27,11 @@ impl<'a> MemorySource<'a> {
         }
     }
 
+    /// How many bytes are left.
+    pub fn left(&self) -> usize {
+        self.rest.len()
+    }
+
     /// The same, but that this read fails.
     pub fn failing(self, read: u64) -> MemorySource<'a> {
         let mut source = self;

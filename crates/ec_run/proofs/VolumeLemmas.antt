@@ -1,17 +1,16 @@
 -- What a run says of its volume file, told or not.
-use Rattle.std.proofs.Common.{◌≡◌, ◌≢◌, ◌<◌, ◌^◌, ℕ, ◌+◌, ◌-◌, ◌++◌, ◌⊎◌, inl, inr, List, [], Option, Some, None, Result, Ok, Err, length, refl, sym, ap, subst, ◌∙◌, append-nil, length-append, arith}
-use Rattle.std.specs.Prelude.{IfSome, IfOk, IfErr}
-use Rattle.std.specs.Io.KnownBytes.{Consumes, IsAtEnd, Keeps}
+use Rattle.std.proofs.Common.{◌≡◌, ◌≢◌, ◌<◌, ◌^◌, ℕ, ◌+◌, ◌-◌, ◌++◌, ◌⊎◌, inl, inr, List, Option, Some, None, length, refl, sym, ap, subst, ◌∙◌, append-nil, length-append, arith}
+use Rattle.std.specs.Prelude.{IfSome}
+use Rattle.std.specs.Io.KnownBytes.{Consumes, IsAtEnd}
 use Rattle.ec_volfile.specs.declared.fault.VolumeFault.{VolumeFault}
 use Rattle.ec_volfile.specs.declared.fault.VolumeFault.TheVariants as fault
-use Rattle.ec_volfile.specs.declared.volume.Volume.{Volume}
 use Rattle.ec_volfile.specs.Faults.{IsFirstFault, IsFirstFaultOrNoMemory}
 use Rattle.ec_volfile.specs.Grammar.{IsVolumeFile}
-use Rattle.ec_volfile.specs.Outline.{Outline, outline}
+use Rattle.ec_volfile.specs.Outline.{Outline}
 use Rattle.ec_run.specs.declared.status.Status.{Status}
 use Rattle.ec_run.specs.declared.status.Status.TheVariants as status
 use Rattle.ec_run.specs.Run.{Ends}
-use Rattle.ec_run.specs.Volume.{EndsRun, HasPlayed, IsUntouched}
+use Rattle.ec_run.specs.Volume.{EndsRun}
 use Rattle.ec_run.specs.declared.volume.VolumeError.{VolumeError}
 use Rattle.ec_run.specs.declared.volume.VolumeError.TheVariants.{ReadFault, Refused, NoMemory}
 use Rattle.ec_run.specs.VolumeText.{IsTextOf, IsRefusedFor}

@@ -1,5 +1,5 @@
 -- What a run says, with the volume that its volume file describes.
-use Rattle.std.specs.Prelude.{◌≡◌, ◌≢◌, ℕ, ◌-◌, Bool, true, false, List, [], Option, Some, None, ◌⊎◌}
+use Rattle.std.specs.Prelude.{◌≡◌, ◌≢◌, ℕ, ◌-◌, Bool, true, false, List, [], Option, ◌⊎◌}
 use Rattle.std.specs.Io.KnownBytes.{Keeps}
 use Rattle.ec_attr.specs.Geometry.{IsGeometry}
 use Rattle.ec_volfile.specs.Faults.{IsFirstFault}

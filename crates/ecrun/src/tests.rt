@@ -37,14 +37,7 @@ fn play(
 ) -> Result<Status, AllocError> {
     let mut volume = MemorySource::new(TWO_OF_THREE, ALL);
     let mut bricks = empty_bricks(alloc, 3)?;
-    Ok(run(
-        alloc,
-        &["play"],
-        &mut volume,
-        source,
-        sink,
-        &mut bricks,
-    ))
+    Ok(run(alloc, &["play"], &mut volume, source, sink, &mut bricks))
 }
 
 /// Plays a script, `most` bytes at a time, that is to end so and to write these texts.
@@ -124,7 +117,11 @@ fn refuses_words(rt: &(impl Abort + AllocGlobal), words: &[&str]) -> Result<(), 
         &mut bricks,
     );
     assert_eq!(rt; status, Status::BadWords, "{words:?}");
-    assert_eq!(rt; (volume.reads, source.reads, sink.writes), (0, 0, 0), "{words:?}");
+    assert_eq!(rt;
+        (volume.reads, source.reads, sink.writes),
+        (0, 0, 0),
+        "{words:?}"
+    );
     Ok(())
 }
 

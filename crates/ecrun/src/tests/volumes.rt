@@ -12,7 +12,8 @@ const FOUR_OF_SIX: &str =
     "volume v\ntype cluster/disperse\noption redundancy 2\nsubvolumes a b c d e f\nend-volume\n";
 
 /// The same, of which the first four have the bytes as they are.
-const SYSTEMATIC: &str = "volume v\ntype cluster/disperse\noption redundancy 2\noption code-rows systematic\n\
+const SYSTEMATIC: &str =
+    "volume v\ntype cluster/disperse\noption redundancy 2\noption code-rows systematic\n\
     subvolumes a b c d e f\nend-volume\n";
 
 /// The sets of four of six bricks.
@@ -102,14 +103,7 @@ fn counts(rt: HostRuntime) -> Result<(), Fail> {
         )?;
     }
     let mut volume = MemorySource::new(FOUR_OF_SIX.as_bytes(), ALL);
-    ends(
-        &rt,
-        &mut volume,
-        6,
-        SCRIPT,
-        b"1 ok 2048\n",
-        Status::Done,
-    )
+    ends(&rt, &mut volume, 6, SCRIPT, b"1 ok 2048\n", Status::Done)
 }
 
 /// A volume file is refused before the number of bricks is looked at, with its first fault.
@@ -145,14 +139,7 @@ fn long_volumes(rt: HostRuntime) -> Result<(), Fail> {
     let mut longest = volume;
     longest.extend_from_slice(TWO_OF_THREE)?;
     let mut source = MemorySource::new(longest.as_slice(), ALL);
-    ends(
-        &rt,
-        &mut source,
-        3,
-        SCRIPT,
-        b"1 ok 2048\n",
-        Status::Done,
-    )?;
+    ends(&rt, &mut source, 3, SCRIPT, b"1 ok 2048\n", Status::Done)?;
     let longer = joined(rt.alloc(), &[("\n", 1_048_580)])?;
     let mut source = MemorySource::new(longer.as_slice(), ALL);
     let status = Status::BadVolume {

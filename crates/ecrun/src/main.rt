@@ -5,6 +5,8 @@
 // done ended. What the file system and standard input give and standard output takes no clause says.
 #![tactic(auto)]
 
+ghost use Rattle.std.specs.Prelude.{◌≡◌, map, string_bytes, IfOk};
+
 mod bricks;
 mod streams;
 #[cfg(test)]
@@ -59,7 +61,10 @@ fn words(rt: &(impl Env + AllocGlobal)) -> io::Result<Vec<String>> {
     Ok(words)
 }
 
-fn lent(alloc: Global, words: &Vec<String>) -> Result<Vec<&str>, AllocError> {
+/// The same words, as `run` takes them.
+fn lent(alloc: Global, words: &Vec<String>) -> Result<Vec<&str>, AllocError>
+    ensures { IfOk result (λ texts. map (λ text. text.now) texts.items ≡ map string_bytes words.now.items) }
+{
     let mut texts = Vec::with_capacity(alloc, words.len())?;
     for word in words {
         texts.push(word.as_str())?;

@@ -36,3 +36,35 @@ fn reads_elements(rt: HostRuntime) {
     assert_eq!(rt; element(&chunk, 8), 0);
     assert_eq!(rt; chunk.bytes().len(), 512);
 }
+
+/// Element 9 has its bits in bytes 1, 65, .., 449, and element 511 in bytes 63, 127, .., 511.
+#[test]
+fn builds_from_elements(rt: HostRuntime) {
+    let mut elements = [0u8; 512];
+    elements[9] = 0x81;
+    elements[511] = 0x40;
+    let mut bytes = [0u8; 512];
+    bytes[1] = 0x02;
+    bytes[449] = 0x02;
+    bytes[447] = 0x80;
+    assert_eq!(rt; Chunk::from_elements(&elements), Chunk::from_array(bytes));
+}
+
+#[test]
+fn adds_chunks(rt: HostRuntime) {
+    let mut ours = [0u8; 512];
+    let mut theirs = [0u8; 512];
+    let mut sum = [0u8; 512];
+    for (place, a, b, both) in [
+        (0usize, 0x0F, 0x35, 0x3A),
+        (511, 0xFF, 0x01, 0xFE),
+        (64, 0xA5, 0, 0xA5),
+    ] {
+        ours[place] = a;
+        theirs[place] = b;
+        sum[place] = both;
+    }
+    let added = Chunk::from_array(ours).plus(&Chunk::from_array(theirs));
+    assert_eq!(rt; added, Chunk::from_array(sum));
+    assert_eq!(rt; added.plus(&added), Chunk::zero());
+}

@@ -11,3 +11,5 @@ pub mod WriteLemmas
 pub mod ReadLemmas
 pub mod PlayLemmas
 pub mod RunLemmas
+pub mod EmptyLemmas
+pub mod VolumeLemmas

@@ -7,7 +7,7 @@ use Rattle.std.specs.Io.KnownBytes.{Appends, Keeps, IsAtEnd, prepend_known}
 use Rattle.std.proofs.KnownBytes.{Appends-nil, Appends-trans}
 use Rattle.ec_run.specs.declared.status.Status.{Status}
 use Rattle.ec_run.specs.declared.status.ScriptWhy.{ScriptWhy}
-use Rattle.ec_run.specs.declared.status.Status.TheVariants.{Done, BadScript, BadWords, ReadFault, WriteFault, NoMemory}
+use Rattle.ec_run.specs.declared.status.Status.TheVariants.{Done, BadScript, BadVolume, BadWords, ReadFault, WriteFault, WrongBricks, NoMemory}
 use Rattle.ec_run.specs.declared.player.Player.{Player}
 use Rattle.ec_run.specs.File.{File, IsCoded}
 use Rattle.ec_run.specs.Lines.{lines, HasNoLine, HasLine, TakesLine, BeginsLong}
@@ -259,9 +259,11 @@ pub ends_end : (n k algorithm : ℕ) (input now old was written : Option (List �
     → IfSome input (λ xs. Ends n k algorithm status xs old written bricks)
 ends_end n k algorithm input now old was written s number player bricks Done goes stands last told = ends_done n k algorithm input now old was written s number player bricks goes stands last told
 ends_end n k algorithm input now old was written s number player bricks (BadScript line why) goes stands last told = absurd told
+ends_end n k algorithm input now old was written s number player bricks (BadVolume line why) goes stands last told = absurd told
 ends_end n k algorithm input now old was written s number player bricks BadWords goes stands last told = absurd told
 ends_end n k algorithm input now old was written s number player bricks ReadFault goes stands last told = absurd told
 ends_end n k algorithm input now old was written s number player bricks WriteFault goes stands last told = broken_end n k algorithm input now old was written s number player bricks goes stands told
+ends_end n k algorithm input now old was written s number player bricks (WrongBricks why) goes stands last told = absurd told
 ends_end n k algorithm input now old was written s number player bricks NoMemory goes stands last told = broken_end n k algorithm input now old was written s number player bricks goes stands told
 
 -- the bricks hold the codes of a file where a line fails

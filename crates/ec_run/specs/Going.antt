@@ -20,7 +20,9 @@ Goes n k (Some input) (Some rest) old new s number =
 abbrev pub Finishes : Status → Option (List ℕ) → Option (List ℕ) → List ℕ → Type 0
 Finishes status.Done old new text = Appends old new text
 Finishes (status.BadScript line why) old new text = ⊥
+Finishes (status.BadVolume line why) old new text = ⊥
 Finishes status.BadWords old new text = ⊥
 Finishes status.ReadFault old new text = ⊥
 Finishes status.WriteFault old new text = Begins old new text
+Finishes (status.WrongBricks why) old new text = ⊥
 Finishes status.NoMemory old new text = Begins old new text

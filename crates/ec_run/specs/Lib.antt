@@ -10,3 +10,5 @@ pub mod Player
 pub mod Stripes
 pub mod Run
 pub mod Going
+pub mod VolumeText
+pub mod Volume

@@ -1,9 +1,9 @@
 -- What a status says, of a volume of n bricks of which k suffice to read.
 use Rattle.std.specs.Prelude.{◌≡◌, ℕ, ◌+◌, List, [], ◌∷◌, ◌++◌, length, Option, Some, None, codes}
-use Rattle.std.specs.Io.KnownBytes.{Appends, Keeps}
+use Rattle.std.specs.Io.KnownBytes.{Appends}
 use Rattle.ec_run.specs.declared.status.Status.{Status}
 use Rattle.ec_run.specs.declared.status.Status.TheVariants as status
-use Rattle.ec_run.specs.File.{IsCoded, empty_file}
+use Rattle.ec_run.specs.File.{IsCoded}
 use Rattle.ec_run.specs.Lines.{lines}
 use Rattle.ec_run.specs.Outside.{Begins}
 use Rattle.ec_run.specs.Play.{Stepped, nothing_done, steps, step_line, open_text}
@@ -40,13 +40,15 @@ pub record IsBroken (n k algorithm : ℕ) (input : List ℕ) (front rest : List 
   pub text : Begins old new (whole_text stepped)
   pub coded : IsCoded n k algorithm bricks stepped.state.file
 
--- what a run with this status has written, and what the bricks hold
+-- what a run that obeys a script, and has this status, has written, and what the bricks hold
 abbrev pub Ends : ℕ → ℕ → ℕ → Status → List ℕ → Option (List ℕ) → Option (List ℕ) → List (List (List ℕ)) → Type 0
 Ends n k algorithm status.Done input old new bricks = (stepped : Stepped) × IsWhole n k algorithm input stepped old new bricks
 Ends n k algorithm (status.BadScript number why) input old new bricks =
     (front : List (List ℕ)) × (line : List ℕ) × (rest : List (List ℕ)) × (stepped : Stepped)
     × IsObeyed n k algorithm input front (line ∷ rest) stepped old new bricks × IsBad n k number front line stepped
-Ends n k algorithm status.BadWords input old new bricks = Keeps old new × IsCoded n k algorithm bricks empty_file
+Ends n k algorithm (status.BadVolume line why) input old new bricks = ⊥
+Ends n k algorithm status.BadWords input old new bricks = ⊥
+Ends n k algorithm (status.WrongBricks why) input old new bricks = ⊥
 Ends n k algorithm status.ReadFault input old new bricks =
     (front : List (List ℕ)) × (rest : List (List ℕ)) × (stepped : Stepped) × IsObeyed n k algorithm input front rest stepped old new bricks
 Ends n k algorithm status.WriteFault input old new bricks =
@@ -62,7 +64,9 @@ IsPlay words = words ≡ codes "play" ∷ []
 abbrev pub number_of_status : Status → ℕ
 number_of_status status.Done = 0
 number_of_status (status.BadScript line why) = 1
+number_of_status (status.BadVolume line why) = 2
 number_of_status status.BadWords = 3
 number_of_status status.ReadFault = 4
 number_of_status status.WriteFault = 5
+number_of_status (status.WrongBricks why) = 6
 number_of_status status.NoMemory = 8

@@ -16,9 +16,10 @@ mod split;
 mod status;
 mod stripes;
 mod top;
+mod volume;
 mod writer;
 
 pub use brick::PlainBrick;
 pub use outside::{Failed, Sink, SinkFault, Source};
-pub use status::{ScriptWhy, Status};
+pub use status::{BricksWhy, ScriptWhy, Status};
 pub use top::run;

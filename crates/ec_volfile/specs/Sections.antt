@@ -1,17 +1,15 @@
 -- The steps of reading, line by line, as the code takes them: what each line leads to, or the fault that it is. The
 -- grammar is said apart from them, by sections, and so are the faults, by what a line says.
-use Rattle.std.specs.Prelude.{◌≡◌, ℕ, ◌+◌, ◌*◌, ◌^◌, Bool, true, false, ◌||◌, ◌&&◌, List, [], ◌∷◌, length, take, Option, Some, None, unwrap_or, ok_or, Result, Ok, Err, bytes_eq, codes, nat_eq, nat_lt, nat_le, if◌then◌else◌}
+use Rattle.std.specs.Prelude.{ℕ, ◌+◌, ◌*◌, ◌^◌, Bool, true, false, ◌||◌, ◌&&◌, List, [], ◌∷◌, length, take, Option, Some, None, unwrap_or, ok_or, Result, Ok, Err, bytes_eq, codes, nat_eq, nat_lt, nat_le, if◌then◌else◌}
 use Rattle.std.specs.List.{list_any}
 use Rattle.std.specs.Borrow.{Bor}
-use Rattle.ec_attr.specs.declared.policy.Policy.{Policy}
 use Rattle.ec_attr.specs.declared.policy.Policy.TheVariants.{RoundRobin}
-use Rattle.ec_volfile.specs.declared.volume.Kernel.{Kernel}
 use Rattle.ec_volfile.specs.declared.volume.Kernel.TheVariants.{Fused}
 use Rattle.ec_volfile.specs.declared.volume.Volume.{Volume}
 use Rattle.ec_volfile.specs.declared.options.Key.{Key}
 use Rattle.ec_volfile.specs.declared.options.Options.{Options}
 use Rattle.ec_volfile.specs.declared.fault.VolumeFault.{VolumeFault}
-use Rattle.ec_volfile.specs.declared.fault.VolumeFault.TheVariants.{TooLong, BadLine, Twice, TwoDisperse, NoRedundancy, BadGeometry, NoEnd, NoDisperse, NoMemory}
+use Rattle.ec_volfile.specs.declared.fault.VolumeFault.TheVariants.{TooLong, BadLine, Twice, TwoDisperse, NoRedundancy, BadGeometry, NoEnd, NoDisperse}
 use Rattle.ec_volfile.specs.declared.section.Keyword.{Keyword}
 use Rattle.ec_volfile.specs.declared.section.Keyword.TheVariants as keyword
 use Rattle.ec_volfile.specs.declared.section.Subvolumes.{Subvolumes}

@@ -1,25 +1,39 @@
 // The bricks of the folder that the program runs in.
-ghost use Rattle.std.specs.Prelude.{◌≡◌, ℕ, [], IfOk};
-ghost use Rattle.ec_run.specs.File.{fragment_at};
+ghost use Rattle.std.specs.Prelude.{◌≡◌, vec_len, IfOk};
+ghost use Rattle.ec_run.specs.Volume.{AreEmpty};
 
 use ec_run::PlainBrick;
-use std::alloc::AllocError;
+use std::alloc::{AllocError, Global};
 use std::path::Path;
 use std::rt::Files;
 
-/// An empty brick for each folder `brick0`, `brick1` and on, up to the first that is no folder. What the folders hold is
-/// not read.
-#[tactic(auto, using(crate::proofs::EmptyBricks::one_more_empty))]
+/// An empty brick for each brick folder. What the folders hold is not read.
 pub fn bricks_of_folders(rt: &(impl Files + AllocGlobal)) -> Result<Vec<PlainBrick>, AllocError>
-    ensures fresh { IfOk result (λ bricks. (b : ℕ) → fragment_at bricks.items b ≡ []) }
+    ensures fresh { IfOk result (λ bricks. AreEmpty bricks.items) }
 {
-    let mut bricks = Vec::new(rt.alloc());
+    empty_bricks(rt.alloc(), brick_folders(rt)?)
+}
+
+/// How many folders `brick0`, `brick1` and on there are, up to the first that is no folder.
+fn brick_folders(rt: &(impl Files + AllocGlobal)) -> Result<u64, AllocError> {
     for number in 0..u64::MAX {
         let name = format!(in rt.alloc(); "brick{number}")?;
         if !Path::new(name.as_str()).is_dir(rt) {
-            break;
+            return Ok(number);
         }
-        bricks.push(PlainBrick::new(rt.alloc()))?;
+    }
+    Ok(u64::MAX)
+}
+
+/// So many bricks without a chunk.
+#[tactic(auto, using(crate::proofs::EmptyBricks::one_more_empty))]
+pub fn empty_bricks(alloc: Global, count: u64) -> Result<Vec<PlainBrick>, AllocError>
+    ensures count { IfOk result (λ bricks. vec_len bricks ≡ count) }
+    ensures fresh { IfOk result (λ bricks. AreEmpty bricks.items) }
+{
+    let mut bricks = Vec::new(alloc);
+    for _ in 0..count {
+        bricks.push(PlainBrick::new(alloc))?;
     }
     Ok(bricks)
 }

@@ -9,6 +9,8 @@ ghost use Rattle.std.specs.Prelude.{◌≡◌, map, string_bytes, IfOk};
 
 mod bricks;
 mod streams;
+#[cfg(test)]
+mod tests;
 mod volume;
 
 use crate::bricks::bricks_of_folders;

@@ -6,14 +6,15 @@ use Rattle.ec_run.specs.declared.status.ScriptWhy.TheVariants.{Unbuilt}
 use Rattle.ec_run.proofs.KnownLemmas.{prepend_nothing}
 use Rattle.std.specs.Io.KnownBytes.{prepend_known}
 use Rattle.ec_run.specs.Play.{start}
-use Rattle.ec_run.proofs.FileLemmas.{empty_is_file, empty_is_coded}
+use Rattle.ec_run.proofs.EmptyLemmas.{empty_bricks_are_coded}
+use Rattle.ec_run.proofs.FileLemmas.{empty_is_file}
 use Rattle.ec_run.proofs.RunLemmas.{goes_start, goes_next, ends_end, ends_bad, ends_unread, broken_here, broken_line, bad_taken, bad_long, bad_beyond, coded_after}
 use Rattle.ec_run.proofs.top.play.Goals as goal
 
 pub lines-init : goal.lines-init
 lines-init g c = record {
   state = start;
-  stands = record { coded = rw c.requires.plain (empty_is_coded c.args.g.now.n (c.args.g.now.n - c.args.g.now.r) c.args.bricks.now.items c.args.g.now.bricks c.requires.fresh); file = empty_is_file; size = refl; waiting = refl; calls = refl };
+  stands = record { coded = empty_bricks_are_coded c.args.g.now.n (c.args.g.now.n - c.args.g.now.r) c.args.g.now.algorithm c.args.bricks.now.items (omega (arith, c.args.g.now.most)) c.args.g.now.bricks c.requires.fresh; file = empty_is_file; size = refl; waiting = refl; calls = refl };
   goes = rw (c.new-reader.ensures, prepend_nothing) (goes_start _ _ _ _);
   ready = record { size = omega arith; whole = zero-mod (512 * (c.args.g.now.n - c.args.g.now.r)); fits = tt; calls = omega arith };
   count = c.requires.count;

@@ -5,14 +5,34 @@
 // before where there is no memory.
 #![tactic(auto)]
 
+mod attr;
 mod blob;
 mod bricks;
+mod config;
+mod counts;
+mod fault;
 mod geometry;
+mod gfid;
+mod head;
+mod kind;
+mod name;
+mod names;
 mod policy;
 #[cfg(test)]
 mod tests;
+mod text;
 
+pub use attr::{Attr, same_attr};
 pub use blob::Blob;
 pub use bricks::{BrickSet, brick_laws};
-pub use geometry::{BadGeometry, Geometry};
+pub use config::{Config, same_config};
+pub use counts::{Dirty, Version, is_marked, marked, size_from_bytes, size_to_bytes, stripped};
+pub use fault::AttrFault;
+pub use geometry::{BadGeometry, Geometry, same_geometry};
+pub use gfid::{Gfid, gfid_text};
+pub use head::{Head, same_head};
+pub use kind::{Child, Domain, Kind, LockKind, same_child};
+pub use name::{BadName, Name};
+pub use names::NameList;
 pub use policy::Policy;
+pub use text::hex_text;

@@ -11,7 +11,7 @@ use Rattle.ec_run.specs.declared.status.Status.TheVariants.{Done, BadScript, Bad
 use Rattle.ec_run.specs.declared.player.Player.{Player}
 use Rattle.ec_run.specs.File.{File, IsCoded}
 use Rattle.ec_run.specs.Lines.{lines, HasNoLine, HasLine, TakesLine, BeginsLong}
-use Rattle.ec_run.specs.Outside.{Begins}
+use Rattle.ec_store.specs.Causes.{Begins}
 use Rattle.ec_run.specs.Play.{State, Stepped, start, nothing_done, steps, step_line, extended, open_text}
 use Rattle.ec_run.specs.Player.{Stands, Obeys, Fails}
 use Rattle.ec_run.specs.Run.{Ends, IsBroken}

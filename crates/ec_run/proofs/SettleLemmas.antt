@@ -9,7 +9,7 @@ use Rattle.ec_run.specs.declared.player.Player.{Player}
 use Rattle.ec_run.specs.declared.script.Call.{Call}
 use Rattle.ec_run.specs.declared.script.Event.TheVariants.{Settle}
 use Rattle.ec_run.specs.File.{File, IsFile, IsCoded, IsCodedAt}
-use Rattle.ec_run.specs.Outside.{Begins}
+use Rattle.ec_store.specs.Causes.{Begins}
 use Rattle.ec_run.specs.Play.{State, step_event, file_after, answer}
 use Rattle.ec_run.specs.Player.{Stands, Obeys, Fails, IsSettled, IsHalfSettled}
 

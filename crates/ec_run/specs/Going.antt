@@ -2,7 +2,7 @@
 use Rattle.std.specs.Prelude.{◌≡◌, ◌+◌, ◌++◌, ℕ, List, length, Option, Some, None}
 use Rattle.std.specs.Io.KnownBytes.{Appends}
 use Rattle.ec_run.specs.Lines.{lines}
-use Rattle.ec_run.specs.Outside.{Begins}
+use Rattle.ec_store.specs.Causes.{Begins}
 use Rattle.ec_run.specs.declared.status.Status.{Status}
 use Rattle.ec_run.specs.declared.status.Status.TheVariants as status
 use Rattle.ec_run.specs.Play.{State, steps, nothing_done}

@@ -1,4 +1,3 @@
-pub mod Outside
 pub mod Lines
 pub mod Split
 pub mod Numbers

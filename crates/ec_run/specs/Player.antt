@@ -5,7 +5,7 @@ use Rattle.ec_run.specs.Script.{WaitingFits, stripe_len}
 use Rattle.ec_run.specs.declared.script.Call.{Call}
 use Rattle.ec_run.specs.declared.player.Player.{Player}
 use Rattle.ec_run.specs.File.{File, IsCoded, IsFile}
-use Rattle.ec_run.specs.Outside.{Begins}
+use Rattle.ec_store.specs.Causes.{Begins}
 use Rattle.ec_run.specs.Play.{State, file_after, answer, Stepped}
 
 -- the player and the bricks stand for a state

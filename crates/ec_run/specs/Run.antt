@@ -5,7 +5,7 @@ use Rattle.ec_run.specs.declared.status.Status.{Status}
 use Rattle.ec_run.specs.declared.status.Status.TheVariants as status
 use Rattle.ec_run.specs.File.{IsCoded}
 use Rattle.ec_run.specs.Lines.{lines}
-use Rattle.ec_run.specs.Outside.{Begins}
+use Rattle.ec_store.specs.Causes.{Begins}
 use Rattle.ec_run.specs.Play.{Stepped, nothing_done, steps, step_line, open_text}
 
 -- the first lines can be obeyed, and give this

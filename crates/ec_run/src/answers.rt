@@ -1,11 +1,11 @@
 // The lines that tell what became of a call.
 ghost use Rattle.std.specs.Prelude.{◌≡◌, ◌≤◌, is_some, string_bytes, IfOk, OnOk, OnErr, IsErrOf};
 ghost use Rattle.std.specs.Io.KnownBytes.{Appends};
-ghost use Rattle.ec_run.specs.Outside.{Begins, Rose};
+ghost use Rattle.ec_store.specs.Causes.{Begins, Rose};
 ghost use Rattle.ec_run.specs.Play.{size_line, data_line, open_line, hex_text};
 
-use crate::outside::Sink;
 use crate::writer::{WriteError, write_all};
+use ec_store::Sink;
 use std::alloc::{AllocError, Global};
 
 /// The answer to a write: the size after it, in bytes.

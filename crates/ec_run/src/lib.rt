@@ -6,7 +6,6 @@ mod brick;
 mod data;
 mod numbers;
 mod obey;
-mod outside;
 mod player;
 mod reader;
 mod rows;
@@ -20,6 +19,5 @@ mod volume;
 mod writer;
 
 pub use brick::PlainBrick;
-pub use outside::{Failed, Sink, SinkFault, Source};
 pub use status::{BricksWhy, ScriptWhy, Status};
 pub use top::run;

@@ -1,12 +1,11 @@
 // One line of a script, obeyed.
 ghost use Rattle.std.specs.Prelude.{◌≡◌, ◌+◌, ◌-◌, ◌≤◌, ◌<◌, ℕ, None, Some, Err, true, length, vec_len, is_some, OnOk, OnErr, IsErrOf};
-ghost use Rattle.ec_run.specs.Outside.{Rose};
+ghost use Rattle.ec_store.specs.Causes.{Rose};
 ghost use Rattle.ec_run.specs.Play.{State, step_event, step_line};
 ghost use Rattle.ec_run.specs.Player.{Stands, IsReady, Obeys, Refuses, Fails};
 ghost use Rattle.ec_run.specs.Script.{EventFits};
 
 use crate::brick::PlainBrick;
-use crate::outside::Sink;
 use crate::player::{MOST_LINES, Player};
 use crate::reader::LONGEST;
 use crate::script::{Call, Event, LineError, event_of};
@@ -14,6 +13,7 @@ use crate::settle::settle;
 use crate::writer::WriteError;
 use ec_attr::Geometry;
 use ec_bank::RowTimes;
+use ec_store::Sink;
 use std::alloc::Global;
 
 /// Why a run ends at a line.

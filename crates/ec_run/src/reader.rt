@@ -3,11 +3,11 @@ ghost use Rattle.std.specs.Prelude.{◌≡◌, ◌<◌, ◌≤◌, ℕ, [], leng
 ghost use Rattle.std.specs.List.{position_or_len};
 ghost use Rattle.std.specs.Io.KnownBytes.{Consumes, IsAtEnd, Keeps, prepend_known};
 ghost use Rattle.ec_run.specs.Lines.{HasLine, HasNoLine, TakesLine, BeginsLong};
-ghost use Rattle.ec_run.specs.Outside.{Rose};
+ghost use Rattle.ec_store.specs.Causes.{Rose};
 ghost use Rattle.ec_run.specs.declared.reader.ReadError.TheVariants.{ReadFault, NoMemory};
 
-use crate::outside::{Failed, Source};
 use crate::split::place_of;
+use ec_store::{Failed, Source};
 use std::alloc::AllocError;
 use std::marker::Model;
 

@@ -3,20 +3,20 @@ ghost use Rattle.std.specs.Prelude.{◌≡◌, ◌+◌, ◌-◌, ◌*◌, ◌%�
 ghost use Rattle.std.specs.Io.KnownBytes.{Appends, Keeps};
 ghost use Rattle.ec_attr.specs.Bricks.{is_in};
 ghost use Rattle.ec_run.specs.File.{File, IsFile, IsCoded, IsCodedAt, written, bytes_of};
-ghost use Rattle.ec_run.specs.Outside.{Begins, Rose};
+ghost use Rattle.ec_store.specs.Causes.{Begins, Rose};
 ghost use Rattle.ec_run.specs.Play.{State, size_line, data_line, step_event, file_after};
 ghost use Rattle.ec_run.specs.Player.{Stands, Obeys, Fails, IsSettled, IsHalfSettled};
 ghost use Rattle.ec_run.specs.Script.{is_range, stripe_len, IsVia, CallFits, WaitingFits};
 
 use crate::answers::{write_data, write_size};
 use crate::brick::PlainBrick;
-use crate::outside::Sink;
 use crate::player::Player;
 use crate::script::{Call, Event};
 use crate::stripes::{read_stripes, write_stripes};
 use crate::writer::WriteError;
 use ec_attr::{BrickSet, Geometry};
 use ec_bank::RowTimes;
+use ec_store::Sink;
 use std::alloc::Global;
 
 /// Carries out a write and answers it; gives the size after it.

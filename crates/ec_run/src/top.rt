@@ -2,7 +2,7 @@
 ghost use Rattle.std.specs.Prelude.{◌≡◌, ◌⊎◌, ◌-◌, ◌≤◌, ◌↔◌, true, false, vec_len, is_some, map, IfSome, OnOk, OnErr, IsErrOf, IsTrue};
 ghost use Rattle.std.specs.Io.KnownBytes.{Appends, Keeps};
 ghost use Rattle.ec_run.specs.File.{File, IsCoded};
-ghost use Rattle.ec_run.specs.Outside.{Begins, Rose};
+ghost use Rattle.ec_store.specs.Causes.{Begins, Rose};
 ghost use Rattle.ec_run.specs.Play.{open_text};
 ghost use Rattle.ec_run.specs.Run.{Ends, IsPlay};
 ghost use Rattle.ec_run.specs.Going.{Finishes};
@@ -11,7 +11,6 @@ ghost use Rattle.ec_run.specs.Volume.{AreEmpty, EndsRun, HoldCodes, is_refusal};
 use crate::answers::write_open;
 use crate::brick::PlainBrick;
 use crate::obey::{Stop, obey_line};
-use crate::outside::{Sink, Source};
 use crate::player::{MOST_LINES, Player};
 use crate::reader::{LineReader, ReadError};
 use crate::rows::PlainRows;
@@ -21,6 +20,7 @@ use crate::volume::{VolumeError, volume_of};
 use crate::writer::WriteError;
 use ec_attr::Geometry;
 use ec_bank::RowTimes;
+use ec_store::{Sink, Source};
 use std::alloc::Global;
 
 /// Obeys a script over the bricks of a volume, which are empty: any K of its N bricks read the one file.

@@ -3,11 +3,11 @@ ghost use Rattle.std.specs.Prelude.{◌≡◌, ◌≢◌, ◌⊎◌, ◌≤◌, 
 ghost use Rattle.ec_volfile.specs.Faults.{IsFirstFaultOrNoMemory};
 ghost use Rattle.ec_volfile.specs.Grammar.{IsVolumeFile};
 ghost use Rattle.ec_volfile.specs.Outline.{outline};
-ghost use Rattle.ec_run.specs.Outside.{Rose};
+ghost use Rattle.ec_store.specs.Causes.{Rose};
 ghost use Rattle.ec_run.specs.VolumeText.{IsTextOf, IsRefusedFor};
 ghost use Rattle.ec_run.specs.declared.volume.VolumeError.TheVariants.{ReadFault, NoMemory};
 
-use crate::outside::{Failed, Source};
+use ec_store::{Failed, Source};
 use ec_volfile::{Volume, VolumeFault, read};
 use std::alloc::{AllocError, Global};
 use std::cmp::min;

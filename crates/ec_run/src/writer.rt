@@ -1,9 +1,9 @@
 // Text that is written whole.
 ghost use Rattle.std.specs.Prelude.{◌≡◌, ◌≤◌, is_some, OnOk, OnErr, IsErrOf};
 ghost use Rattle.std.specs.Io.KnownBytes.{Appends};
-ghost use Rattle.ec_run.specs.Outside.{Begins, Rose};
+ghost use Rattle.ec_store.specs.Causes.{Begins, Rose};
 
-use crate::outside::{Sink, SinkFault};
+use ec_store::{Sink, SinkFault};
 
 /// Why a text was not written whole.
 #[derive(Clone, Copy, Debug, PartialEq, Eq)]

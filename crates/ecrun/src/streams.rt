@@ -3,9 +3,9 @@ ghost use Rattle.std.specs.Prelude.{List, ℕ, IsSome, IsNone, IsErr};
 ghost use Rattle.std.specs.declared.option.Option.{Option};
 ghost use Rattle.std.specs.declared.option.Option.TheVariants.{None};
 ghost use Rattle.std.specs.Io.{ReadsAtMost};
-ghost use Rattle.ec_run.specs.Outside.{HasCause};
+ghost use Rattle.ec_store.specs.Causes.{HasCause};
 
-use ec_run::{Failed, Sink, SinkFault, Source};
+use ec_store::{Failed, Sink, SinkFault, Source};
 use std::io::{Read, Write};
 
 /// A reader that counts its faults. One that is missing fails at each read.

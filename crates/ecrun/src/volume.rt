@@ -14,7 +14,7 @@ pub fn volume_file<R: Files>(rt: &R) -> Reading<R::File> {
 #[cfg(test)]
 mod tests {
     use super::*;
-    use ec_run::{Failed, Source};
+    use ec_store::{Failed, Source};
     use std::test::Fail;
 
     /// What two reads give, each of up to four bytes.

@@ -1,7 +1,7 @@
 // A source and a sink in memory, which give and take as little at a time, and fail at the call, that a test wants.
 ghost use Rattle.std.specs.Prelude.{◌≡◌, ◌≤◌, ◌<◌, ◌++◌, [], List, ℕ, Some, length, take, drop};
 
-use ec_run::{Failed, Sink, SinkFault, Source};
+use ec_store::{Failed, Sink, SinkFault, Source};
 use std::alloc::Global;
 
 /// Gives bytes, up to `most` at a read and at least one.

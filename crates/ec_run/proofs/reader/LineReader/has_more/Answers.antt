@@ -1,7 +1,7 @@
 use Rattle.std.proofs.Common.{List, ℕ, Option, Some, None, true, false, Result, Ok, Err, length, ◌<◌, []}
 use Rattle.std.specs.Prelude.{IfOk, MatchBool, Bool, OnOk}
 use Rattle.std.specs.Io.KnownBytes.{Consumes, IsAtEnd, prepend_known}
-use Rattle.ec_run.specs.declared.outside.Failed.{Failed}
+use Rattle.ec_store.specs.declared.ends.Failed.{Failed}
 use Rattle.ec_run.specs.Lines.{HasLine, HasNoLine}
 use Rattle.ec_run.proofs.RunLemmas.{held_line, no_line}
 use Rattle.ec_run.proofs.reader.LineReader.has_more.Goals as goal

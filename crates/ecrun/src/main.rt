@@ -8,14 +8,11 @@
 ghost use Rattle.std.specs.Prelude.{◌≡◌, map, string_bytes, IfOk};
 
 mod bricks;
-mod streams;
 #[cfg(test)]
 mod tests;
-mod volume;
 
 use crate::bricks::bricks_of_folders;
-use crate::streams::{Reading, Writing};
-use crate::volume::volume_file;
+use ec_folder::{FileSink, FileSource, open};
 use ec_run::{Status, run};
 use std::alloc::{AllocError, Global};
 use std::env::Env;
@@ -39,9 +36,9 @@ fn run_program(rt: &(impl Env + Files + Input + Print + AllocGlobal)) -> Status 
     let (Ok(words), Ok(mut bricks)) = (lent(rt.alloc(), &words), bricks_of_folders(rt)) else {
         return Status::NoMemory;
     };
-    let mut volume = volume_file(rt);
-    let mut script = Reading::new(rt.reader());
-    let mut out = Writing::new(io::writer(rt));
+    let mut volume = open(rt, "ec.vol");
+    let mut script = FileSource::new(rt.reader());
+    let mut out = FileSink::new(io::writer(rt));
     run(
         rt.alloc(),
         words.as_slice(),

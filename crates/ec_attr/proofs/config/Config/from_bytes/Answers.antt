@@ -1,4 +1,4 @@
-use Rattle.std.proofs.Common.{rules, ◌≡◌, ◌∙◌, Ok, ap, sym}
+use Rattle.std.proofs.Common.{rules, ◌∙◌, Ok, ap, sym}
 use Rattle.ec_attr.proofs.Attributes.{chunk_of_rest, config_back, config_of_bytes}
 use Rattle.ec_attr.proofs.config.Config.from_bytes.Goals as goal
 

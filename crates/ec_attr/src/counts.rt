@@ -1,5 +1,5 @@
 // The numbers of a record: its version, its dirty number, its size, and the mark.
-ghost use Rattle.std.specs.Prelude.{◌≡◌, ◌≢◌, ◌<◌, ◌^◌, ℕ, IfOk, IfErr, Ok, length};
+ghost use Rattle.std.specs.Prelude.{◌≡◌, ◌≢◌, ◌<◌, ◌^◌, ℕ, IfOk, IfErr, Ok, false, length, true};
 ghost use Rattle.byteorder.specs.Endian.{big_bytes};
 ghost use Rattle.ec_attr.specs.Attributes.{pair_bytes};
 ghost use Rattle.ec_attr.specs.Marks.{is_marked, marked, stripped};
@@ -128,14 +128,17 @@ pub fn is_marked(v: u64) -> bool
 
 /// A content version with the mark.
 pub fn marked(v: u64) -> u64
-    ensures { result ≡ marked v }
+    ensures value { result ≡ marked v }
+    ensures mark { is_marked result ≡ true }
+    ensures rest { stripped result ≡ stripped v }
 {
     if is_marked(v) { v } else { v + MARK }
 }
 
 /// A content version without the mark.
 pub fn stripped(v: u64) -> u64
-    ensures { result ≡ stripped v }
+    ensures value { result ≡ stripped v }
+    ensures mark { is_marked result ≡ false }
 {
     if is_marked(v) { v - MARK } else { v }
 }

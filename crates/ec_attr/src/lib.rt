@@ -1,8 +1,11 @@
-// What describes a volume and its files: the geometry, sets of bricks, bytes, the policy of a read.
+// What describes a volume and its files: the geometry and the config, ids, names, heads and attributes of records,
+// sets of bricks, bytes, the policy of a read.
 //
 // Promised: a geometry is one that the code serves, and `Geometry::new` refuses any other; a set of bricks has exactly
-// the members that were put in, and its laws are stated once here, for every set. Only `Blob` allocates, and it is as
-// before where there is no memory.
+// the members that were put in, and its laws are stated once here, for every set. The bytes of an attribute are those
+// of `specs/Attributes.antt`: what is read of them is what was written, exactly these bytes are read, and any others
+// are refused with their first fault. A name is one that a directory can have. The texts and lists allocate, and
+// a list is as before where there is no memory; nothing else does.
 #![tactic(auto)]
 
 mod attr;

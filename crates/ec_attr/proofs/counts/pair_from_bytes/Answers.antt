@@ -1,4 +1,4 @@
-use Rattle.std.proofs.Common.{◌≡◌, ◌∙◌, refl, sym}
+use Rattle.std.proofs.Common.{◌∙◌, refl, sym}
 use Rattle.ec_attr.proofs.Attributes.{pair_of_halves, first_half, second_half}
 use Rattle.ec_attr.proofs.counts.pair_from_bytes.Goals as goal
 

@@ -1,2 +1,6 @@
+pub mod Attributes
 pub mod Bricks
 pub mod Geometry
+pub mod Head
+pub mod Marks
+pub mod Name

@@ -1,5 +1,5 @@
 // The shape of a volume.
-ghost use Rattle.std.specs.Prelude.{◌≡◌, ℕ, ◌+◌, ◌*◌, ◌<◌, ◌≤◌, IfOk, IfErr};
+ghost use Rattle.std.specs.Prelude.{◌≡◌, ℕ, ◌+◌, ◌*◌, ◌<◌, ◌≤◌, ◌↔◌, IfOk, IfErr, IsTrue};
 ghost use Rattle.ec_attr.specs.Geometry.{IsGeometry};
 
 use thiserror::Error;
@@ -65,4 +65,11 @@ impl Geometry {
     {
         self.n - self.r
     }
+}
+
+/// Whether two geometries are equal. In a contract it says what `==` does.
+pub fn same_geometry(a: &Geometry, b: &Geometry) -> bool
+    ensures { IsTrue result ↔ (a.now ≡ b.now) }
+{
+    *a == *b
 }

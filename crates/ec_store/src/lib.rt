@@ -10,7 +10,9 @@ mod calls;
 mod ends;
 mod mem_sink;
 mod mem_source;
+mod store;
 
 pub use ends::{Failed, Sink, SinkFault, Source};
 pub use mem_sink::MemSink;
 pub use mem_source::MemSource;
+pub use store::{BrickStore, StoreFault};

@@ -6,3 +6,6 @@ pub mod Records
 pub mod Pages
 pub mod Does
 pub mod Reads
+pub mod Memory
+pub mod Fails
+pub mod MemStore

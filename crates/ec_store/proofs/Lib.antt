@@ -1,1 +1,5 @@
 pub mod Rests
+pub mod Zeros
+pub mod RecordMaps
+pub mod NameMaps
+pub mod Pages

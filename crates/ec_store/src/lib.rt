@@ -7,10 +7,20 @@
 #![tactic(auto)]
 
 mod calls;
+mod chunks;
 mod ends;
+mod fails;
 mod mem_sink;
 mod mem_source;
+mod mem_store;
+mod memory;
+mod names;
+mod records;
+mod store;
 
 pub use ends::{Failed, Sink, SinkFault, Source};
+pub use fails::{Fail, FailList, Method};
 pub use mem_sink::MemSink;
 pub use mem_source::MemSource;
+pub use mem_store::MemStore;
+pub use store::{BrickStore, StoreFault};

@@ -1,0 +1,33 @@
+-- Pages of names: up to 64 of them, in byte order.
+use Rattle.std.specs.Prelude.{◌≡◌, ◌⊎◌, ℕ, ◌<◌, Bool, true, ◌&&◌, cond, nat_lt, fold, Option, Some, List, [], ◌∷◌, ◌++◌, length}
+use Rattle.std.specs.List.{list_all}
+use Rattle.ec_attr.specs.declared.kind.Child.{Child}
+use Rattle.ec_store.specs.Records.{is_past, is_within, listed}
+
+abbrev pub Page : Type 0
+Page = List (List ℕ × Child)
+
+-- each name is past the one before it, the first past `after`
+abbrev pub is_rising : Option (List ℕ) → Page → Bool
+is_rising after [] = true
+is_rising after (e ∷ es) = is_past after e.0 && is_rising (Some e.0) es
+
+-- no name is past `upto`
+abbrev pub are_within : Option (List ℕ) → Page → Bool
+are_within upto page = list_all (λ e. is_within upto e.0) page
+
+-- how far a page tells: to its last name where it is full, else to the end
+abbrev pub end_of : Option (List ℕ) → Page → Option (List ℕ)
+end_of after [] = after
+end_of after (e ∷ es) = end_of (Some e.0) es
+
+-- a page shows exactly the names past `after`, up to its last name where it is full
+pub record IsPage (after : Option (List ℕ)) (names : List ℕ → Option Child) (page : List (List ℕ × Child)) : Type 0 where
+  pub shows : (n : List ℕ) → is_past after n ≡ true → (length page < 64) ⊎ (is_within (end_of after page) n ≡ true) → listed page n ≡ names n
+
+-- one more name, where there is room and it is past `after`
+abbrev pub taking : Option (List ℕ) → Page → List ℕ × Child → Page
+taking after page e = cond (nat_lt (length page) 64 && is_past after e.0) (page ++ e ∷ []) page
+
+abbrev pub first_names : Option (List ℕ) → Page → Page
+first_names after entries = fold (taking after) [] entries

@@ -15,7 +15,8 @@ config_bytes c = 0 ∷ c.geometry.algorithm ∷ 8 ∷ c.geometry.n ∷ c.geometr
 abbrev pub chunk_size : List ℕ → ℕ
 chunk_size bytes = big_number 3 (drop 5 bytes)
 
--- What is right of a config up to each of its fields.
+-- What is right of a config up to each of its fields: the length and the version; the algorithm, 0 or 1; the bits of
+-- a word; the bricks and the redundancy.
 abbrev pub IsVersioned : List ℕ → Type 0
 IsVersioned bytes = (length bytes ≡ 8) × (slice_index bytes 0 ≡ 0)
 

@@ -13,15 +13,16 @@ use byteorder::{BigEndian, ByteOrder};
 /// Bit 62 of a content version.
 const MARK: u64 = 1 << 62;
 
-/// The attribute `trusted.ec.version`: how often the content and the metadata changed. Bit 62 of `content` is the mark
-/// of a record that a heal rebuilds.
+/// The attribute `trusted.ec.version`: a number that grows with each change of the content, and one for the metadata.
+/// Bit 62 of `content` is the mark of a record that a heal rebuilds.
 #[derive(Clone, Copy, Debug, PartialEq, Eq)]
 pub struct Version {
     pub content: u64,
     pub meta: u64,
 }
 
-/// The attribute `trusted.ec.dirty`: how many changes of the content and of the metadata may be unfinished.
+/// The attribute `trusted.ec.dirty`: a number that is above 0 from a change of the content on until every brick has it,
+/// and one for the metadata.
 #[derive(Clone, Copy, Debug, PartialEq, Eq)]
 pub struct Dirty {
     pub content: u64,

@@ -17,6 +17,8 @@ mod memory;
 mod names;
 mod records;
 mod store;
+#[cfg(test)]
+mod tests;
 
 pub use ends::{Failed, Sink, SinkFault, Source};
 pub use fails::{Fail, FailList, Method};

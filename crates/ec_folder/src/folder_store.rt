@@ -26,6 +26,13 @@ impl<R: Files + AllocGlobal + Clone + Drop> FolderStore<R> {
             faults: 0,
         })
     }
+
+    /// How often a call failed, up to 2^64 - 1.
+    pub fn faults(&self) -> u64
+        ensures { result ≡ self.now.faults }
+    {
+        self.faults
+    }
 }
 
 impl<R: Files + AllocGlobal + Clone + Drop> BrickStore for FolderStore<R> {

@@ -1,4 +1,7 @@
 // The text of the names of a directory.
+ghost use Rattle.std.specs.Prelude.{◌≡◌, IfOk, string_bytes};
+ghost use Rattle.ec_folder.specs.Texts.{name_line, names_lines};
+
 use crate::fault::Fault;
 use crate::id_text::read_id;
 use crate::kind_text::{kind_of, kind_word};
@@ -8,7 +11,9 @@ use std::alloc::{AllocError, Global};
 use std::collections::BTreeMap;
 
 /// The line of a name.
-fn name_line(alloc: Global, name: &Name, child: Child) -> Result<String, AllocError> {
+fn name_line(alloc: Global, name: &Name, child: Child) -> Result<String, AllocError>
+    ensures { IfOk result (λ text. string_bytes text ≡ name_line (name.now, child)) }
+{
     let mut line = hex_text(alloc, name.bytes())?;
     let id = gfid_text(alloc, child.gfid)?;
     line.push(' ')?;
@@ -20,7 +25,9 @@ fn name_line(alloc: Global, name: &Name, child: Child) -> Result<String, AllocEr
 }
 
 /// A line for each name, in byte order.
-pub fn names_text(alloc: Global, names: &BTreeMap<Name, Child>) -> Result<String, AllocError> {
+pub fn names_text(alloc: Global, names: &BTreeMap<Name, Child>) -> Result<String, AllocError>
+    ensures { IfOk result (λ text. string_bytes text ≡ names_lines names.now.entries) }
+{
     let mut text = String::new(alloc);
     for (name, child) in names {
         let line = name_line(alloc, name, *child)?;
@@ -54,7 +61,9 @@ fn insert(names: &mut BTreeMap<Name, Child>, name: Name, child: Child) -> Result
 }
 
 /// The names with exactly these lines.
-pub fn read_names(alloc: Global, bytes: &[u8]) -> Result<BTreeMap<Name, Child>, Fault> {
+pub fn read_names(alloc: Global, bytes: &[u8]) -> Result<BTreeMap<Name, Child>, Fault>
+    ensures { IfOk result (λ names. bytes.now ≡ names_lines names.entries) }
+{
     let Ok(text) = str::from_utf8(bytes) else {
         return Err(Fault::Failed);
     };

@@ -1,4 +1,8 @@
 // Where the files of a brick folder are.
+ghost use Rattle.std.specs.Prelude.{◌≡◌, ◌++◌, ◌∷◌, IfOk, string_bytes};
+ghost use Rattle.ec_folder.specs.Texts.{id_text};
+ghost use Rattle.ec_folder.specs.Paths.{part_path};
+
 use ec_attr::{Gfid, gfid_text};
 use std::alloc::{AllocError, Global};
 
@@ -11,7 +15,9 @@ pub enum Part {
 }
 
 /// The path of one of the three folders.
-pub fn part_path(alloc: Global, root: &str, part: Part) -> Result<String, AllocError> {
+pub fn part_path(alloc: Global, root: &str, part: Part) -> Result<String, AllocError>
+    ensures { IfOk result (λ path. string_bytes path ≡ part_path root.now part) }
+{
     let mut path = String::from_str(alloc, root)?;
     path.push_str(match part {
         Part::Heads => "/heads",
@@ -22,7 +28,9 @@ pub fn part_path(alloc: Global, root: &str, part: Part) -> Result<String, AllocE
 }
 
 /// The path of a record's file in one of the three folders.
-pub fn record_path(alloc: Global, root: &str, part: Part, g: Gfid) -> Result<String, AllocError> {
+pub fn record_path(alloc: Global, root: &str, part: Part, g: Gfid) -> Result<String, AllocError>
+    ensures { IfOk result (λ path. string_bytes path ≡ part_path root.now part ++ 47 ∷ id_text g.0) }
+{
     let mut path = part_path(alloc, root, part)?;
     let id = gfid_text(alloc, g)?;
     path.push('/')?;

@@ -8,9 +8,9 @@ use crate::files::{fill, open_to_read, open_to_write, remove_if_there, replace_f
 use crate::head_text::{head_text, read_head};
 use crate::id_text::read_id;
 use crate::name_text::{names_text, read_names};
-use crate::page::{page, replace, set_name};
 use crate::paths::{Part, part_path, record_path};
 use ec_attr::{Child, Gfid, Head, Name, NameList};
+use ec_store::{page, put_names, set_name};
 use std::alloc::AllocError;
 use std::collections::BTreeMap;
 use std::fs::OpenFile;
@@ -214,7 +214,7 @@ impl<R: Files + AllocGlobal + Clone + Drop> Folder<R> {
         list: &NameList,
     ) -> Result<(), Fault> {
         let mut names = self.names(g)?;
-        replace(&mut names, after, upto, list)?;
+        put_names(&mut names, after, upto, list)?;
         self.put_all_names(g, &names)
     }
 

@@ -17,7 +17,6 @@ mod head_text;
 mod id_text;
 mod kind_text;
 mod name_text;
-mod page;
 mod paths;
 #[cfg(test)]
 mod tests;

@@ -12,6 +12,7 @@ use Rattle.ec_locks.specs.declared.ask.Ask.{Ask}
 use Rattle.ec_locks.specs.declared.ask.Leaving.{Leaving}
 use Rattle.ec_locks.specs.Table.{same_domain, is_exclusive, conflicts, free, some_grant, covers, holds, leaves, let_in, stays}
 use Rattle.ec_locks.specs.Laws.{LockLaws}
+use Rattle.ec_locks.proofs.CutOrder.{in_order, in_queue}
 use Rattle.ec_locks.proofs.Queues.{any_append, or_left, or_none, or_right, waits_behind}
 
 none_join : (f t r : Bool) → (t ≡ true → f ≡ false) → r ≡ false → ((f && t) || r) ≡ false
@@ -146,4 +147,4 @@ after l p before [] = refl
 after l p before (a ∷ rest) = after_one l p before rest a (leaves l a) refl (after l p (before ++ a ∷ []) rest)
 
 pub laws : LockLaws
-laws = record { apart = never_apart; alone = exclusive_alone; in_turn = waits_behind; kept = λ asks e n g d k. granted_asked (λ a. covers a n g d k) [] asks e; granted_after = λ l asks p. after l p [] asks }
+laws = record { apart = never_apart; alone = exclusive_alone; in_turn = waits_behind; kept = λ asks e n g d k. granted_asked (λ a. covers a n g d k) [] asks e; granted_after = λ l asks p. after l p [] asks; in_order = in_order; in_queue = in_queue }

@@ -1,3 +1,4 @@
+pub mod CutOrder
 pub mod Laws
 pub mod Queues
 pub mod Steps

@@ -1,5 +1,5 @@
 -- What a directory in memory keeps after a change of its map.
-use Rattle.std.proofs.Common.{◌≡◌, ℕ, Bool, true, false, cond, not, Option, None, List, [], ◌∷◌, ◌++◌, map, fold, filter, refl, sym, ap, ◌∙◌}
+use Rattle.std.proofs.Common.{◌≡◌, ℕ, Bool, true, false, cond, not, Option, None, List, filter, refl, sym, ap, ◌∙◌}
 use Rattle.std.specs.Ordering.{nat_cmp, is_eq}
 use Rattle.std.specs.declared.cmp.Ordering.{Ordering}
 use Rattle.std.specs.declared.cmp.Ordering.TheVariants.{Less, Equal, Greater}
@@ -26,7 +26,3 @@ not_cond false o = refl
 
 pub dropped_names : (m n : BTreeMap (List ℕ) Child) (after upto : Option (List ℕ)) → n.entries ≡ filter (λ p. not (is_inside after upto p.0)) m.entries → names_of n ≡ dropped (names_of m) after upto
 dropped_names m n after upto e = let h : (q : List ℕ) → names_of n q ≡ dropped (names_of m) after upto q = λ q. ap (λ es. lookup (is_at (slice_cmp nat_cmp q)) es) e ∙ lookup-filter-keys (is_at (slice_cmp nat_cmp q)) (λ k. not (is_inside after upto k)) (not (is_inside after upto q)) (λ k t. ap (λ j. not (is_inside after upto j)) (sym (same_at q k t))) m.entries ∙ not_cond (is_inside after upto q) (names_of m q) in λ i q. h q i
-
-pub fold_more : {A X B : Type 0} (f : B → X → B) (g : A → X) (b : B) (xs : List A) (x : A) → fold f b (map g (xs ++ x ∷ [])) ≡ f (fold f b (map g xs)) (g x)
-fold_more f g b [] x = refl
-fold_more f g b (y ∷ ys) x = fold_more f g (f b (g y)) ys x

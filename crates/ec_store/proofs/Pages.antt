@@ -1,6 +1,7 @@
 -- The first names of a map in order are a page of it.
-use Rattle.std.proofs.Common.{◌≡◌, ◌⊎◌, inl, inr, ℕ, ◌<◌, Bool, true, false, cond, ◌&&◌, nat_lt, Option, Some, None, List, [], ◌∷◌, ◌++◌, length, length-append, ◌≤◌, fold, refl, sym, ap, subst, ◌∙◌, arith}
+use Rattle.std.proofs.Common.{◌≡◌, ◌⊎◌, inl, inr, ℕ, ◌<◌, Bool, true, false, cond, ◌&&◌, nat_lt, Option, Some, None, List, [], ◌∷◌, ◌++◌, filter, length, length-append, take, append-nil, append_assoc, ◌≤◌, fold, refl, sym, ap, subst, ◌∙◌, arith}
 use Rattle.std.proofs.lemmas.Bool.Decides.{nat_tests}
+use Rattle.std.proofs.lemmas.List.{take-append-le, take_all}
 use Rattle.std.specs.Ordering.{nat_cmp, is_eq, is_le, is_lt}
 use Rattle.std.specs.declared.cmp.Ordering.{Ordering}
 use Rattle.std.specs.declared.cmp.Ordering.TheVariants.{Less, Equal, Greater}
@@ -8,12 +9,19 @@ use Rattle.std.specs.Cmp.Lexicographic.{slice_cmp, nat_list_cmp_total}
 use Rattle.std.specs.List.{AllByRecursion}
 use Rattle.std.specs.List.Sorted.{IsStrictlySortedBy}
 use Rattle.std.specs.BTreeMap.{BTreeMap, is_at, IsOrdered}
+use Rattle.std.specs.BTreeMap.Range.{entries_between}
 use Rattle.std.specs.Map.{keys_of}
+use Rattle.std.specs.declared.ops.Bound.{Bound}
+use Rattle.std.specs.declared.ops.Bound.TheVariants.{Unbounded}
 use Rattle.ec_attr.specs.declared.kind.Child.{Child}
 use Rattle.ec_store.specs.Records.{is_past, is_within, listed}
-use Rattle.ec_store.specs.Pages.{Page, taking, first_names, end_of, is_rising, IsPage}
+use Rattle.ec_store.specs.Pages.{Page, first_names, end_of, is_rising, IsPage, start_of}
 use Rattle.ec_store.specs.Memory.{names_of}
 use Rattle.ec_store.proofs.NameMaps.{same_at}
+
+-- one more name, where there is room and it is past `after`
+abbrev taking : Option (List ℕ) → Page → List ℕ × Child → Page
+taking after page e = cond (nat_lt (length page) 64 && is_past after e.0) (page ++ e ∷ []) page
 
 abbrev compare : List ℕ → List ℕ → Ordering
 compare a b = slice_cmp nat_cmp a b
@@ -88,9 +96,24 @@ shows_page after n p page (e ∷ es) s above w = turn after n page e es p above 
   same_key : (a b : List ℕ) → Some a ≡ Some b → a ≡ b
   same_key a b e = grind arith
 
+take_front : (done es : Page) → nat_lt (length done) 64 ≡ false → take 64 (done ++ es) ≡ take 64 done
+take_front done es x = take-append-le 64 done es (grind (arith, nat_tests))
+
+-- taking one name after the other is taking the first
+folded : (after : Option (List ℕ)) (done es : Page) → length done ≤ 64 → fold (taking after) done es ≡ take 64 (done ++ filter (λ e. is_past after e.0) es)
+folded after done [] h = sym (ap (take 64) (append-nil done) ∙ take_all 64 done h)
+folded after done (e ∷ es) h = go (nat_lt (length done) 64) (is_past after e.0) refl (folded after (done ++ e ∷ []) es) (folded after done es h) where
+  go : (t b : Bool) → nat_lt (length done) 64 ≡ t → (length (done ++ e ∷ []) ≤ 64 → fold (taking after) (done ++ e ∷ []) es ≡ take 64 ((done ++ e ∷ []) ++ filter (λ e. is_past after e.0) es)) → fold (taking after) done es ≡ take 64 (done ++ filter (λ e. is_past after e.0) es) → fold (taking after) (cond (t && b) (done ++ e ∷ []) done) es ≡ take 64 (done ++ cond b (e ∷ filter (λ e. is_past after e.0) es) (filter (λ e. is_past after e.0) es))
+  go true true x one two = one (let k = length-append done (e ∷ []) in grind (arith, nat_tests)) ∙ ap (take 64) (append_assoc done (e ∷ []) (filter (λ e. is_past after e.0) es))
+  go true false x one two = two
+  go false b x one two = full after done es x ∙ sym (take_front done _ x ∙ take_all 64 done h)
+
+pub first_folded : (after : Option (List ℕ)) (es : Page) → fold (taking after) [] es ≡ first_names after es
+first_folded after es = folded after [] es (omega arith)
+
 -- the first names of a map are a page of it
 pub first_names_page : (m : BTreeMap (List ℕ) Child) (after : Option (List ℕ)) → IsOrdered (slice_cmp nat_cmp) m → IsPage after (names_of m) (first_names after m.entries)
-first_names_page m after s = record { shows = λ n p w. shows_page after n p [] m.entries s (λ l is. absurd (nothing l is)) w } where
+first_names_page m after s = subst (IsPage after (names_of m)) (first_folded after m.entries) record { shows = λ n p w. shows_page after n p [] m.entries s (λ l is. absurd (nothing l is)) w } where
   nothing : (l : List ℕ) → ◌≡◌ {A = Option (List ℕ)} None (Some l) → ⊥
   nothing l e = cc
 
@@ -129,9 +152,25 @@ rising after page [] s above r = r
 rising after page (e ∷ es) s above r = rising after (taking after page e) es s.1 (above_turn page e es _ s.0 above) (rising_turn after page e es (nat_lt (length page) 64) (is_past after e.0) refl above r)
 
 pub first_names_rise : (m : BTreeMap (List ℕ) Child) (after : Option (List ℕ)) → IsOrdered (slice_cmp nat_cmp) m → is_rising after (first_names after m.entries) ≡ true
-first_names_rise m after s = rising after [] m.entries s (λ l is. absurd (nothing l is)) refl where
+first_names_rise m after s = sym (ap (is_rising after) (first_folded after m.entries)) ∙ rising after [] m.entries s (λ l is. absurd (nothing l is)) refl where
   nothing : (l : List ℕ) → ◌≡◌ {A = Option (List ℕ)} None (Some l) → ⊥
   nothing l e = cc
 
 pub first_names_few : (m : BTreeMap (List ℕ) Child) (after : Option (List ℕ)) → length (first_names after m.entries) ≤ 64
-first_names_few m after = few after [] m.entries (omega arith)
+first_names_few m after = subst (λ l. length l ≤ 64) (first_folded after m.entries) (few after [] m.entries (omega arith))
+
+-- the names of a range past `after` are those that are past it
+between_past : (after : Option (List ℕ)) (es : Page) → entries_between (slice_cmp nat_cmp) (start_of after) Unbounded es ≡ filter (λ e. is_past after e.0) es
+between_past None es = refl
+between_past (Some a) [] = refl
+between_past (Some a) (e ∷ es) = λ i. cond (and_true (is_lt (compare a e.0)) i) (e ∷ between_past (Some a) es i) (between_past (Some a) es i) where
+  and_true : (b : Bool) → (b && true) ≡ b
+  and_true true = refl
+  and_true false = refl
+
+-- a list that ends where the range ends, or has 64 of its names, is the first of them
+pub first_of_range : (after : Option (List ℕ)) (b : Bound (List ℕ)) (es range page rest : Page) → b ≡ start_of after → range ≡ entries_between (slice_cmp nat_cmp) b Unbounded es → page ++ rest ≡ range → length page ≤ 64 → (rest ≡ []) ⊎ (64 ≤ length page) → page ≡ first_names after es
+first_of_range after b es range page rest s r e h w = first w ∙ ap (take 64) (e ∙ r ∙ ap (λ b. entries_between (slice_cmp nat_cmp) b Unbounded es) s ∙ between_past after es) where
+  first : (rest ≡ []) ⊎ (64 ≤ length page) → page ≡ take 64 (page ++ rest)
+  first (inl n) = sym (take_all 64 page h) ∙ ap (take 64) (sym (append-nil page) ∙ ap (λ r. page ++ r) (sym n))
+  first (inr g) = sym (take_all 64 page h) ∙ sym (take-append-le 64 page rest g)

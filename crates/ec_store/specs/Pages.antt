@@ -1,6 +1,8 @@
 -- Pages of names: up to 64 of them, in byte order.
-use Rattle.std.specs.Prelude.{◌≡◌, ◌⊎◌, ℕ, ◌<◌, Bool, true, ◌&&◌, cond, nat_lt, fold, Option, Some, List, [], ◌∷◌, ◌++◌, length}
+use Rattle.std.specs.Prelude.{◌≡◌, ◌⊎◌, ℕ, ◌<◌, Bool, true, ◌&&◌, Option, Some, None, List, [], ◌∷◌, filter, length, take}
 use Rattle.std.specs.List.{list_all}
+use Rattle.std.specs.declared.ops.Bound.{Bound}
+use Rattle.std.specs.declared.ops.Bound.TheVariants.{Excluded, Unbounded}
 use Rattle.ec_attr.specs.declared.kind.Child.{Child}
 use Rattle.ec_store.specs.Records.{is_past, is_within, listed}
 
@@ -25,9 +27,11 @@ end_of after (e ∷ es) = end_of (Some e.0) es
 pub record IsPage (after : Option (List ℕ)) (names : List ℕ → Option Child) (page : List (List ℕ × Child)) : Type 0 where
   pub shows : (n : List ℕ) → is_past after n ≡ true → (length page < 64) ⊎ (is_within (end_of after page) n ≡ true) → listed page n ≡ names n
 
--- one more name, where there is room and it is past `after`
-abbrev pub taking : Option (List ℕ) → Page → List ℕ × Child → Page
-taking after page e = cond (nat_lt (length page) 64 && is_past after e.0) (page ++ e ∷ []) page
+-- where the names past `after` begin
+abbrev pub start_of : Option (List ℕ) → Bound (List ℕ)
+start_of None = Unbounded
+start_of (Some a) = Excluded a
 
+-- the first 64 names past `after`
 abbrev pub first_names : Option (List ℕ) → Page → Page
-first_names after entries = fold (taking after) [] entries
+first_names after entries = take 64 (filter (λ e. is_past after e.0) entries)

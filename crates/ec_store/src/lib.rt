@@ -25,4 +25,5 @@ pub use fails::{Fail, FailList, Method};
 pub use mem_sink::MemSink;
 pub use mem_source::MemSource;
 pub use mem_store::MemStore;
+pub use names::{page, put_names, set_name};
 pub use store::{BrickStore, StoreFault};

@@ -1,12 +1,14 @@
 // The names of a directory in memory.
 ghost use Rattle.std.specs.Prelude.{◌≡◌, ◌≤◌, true, option_copied, length, OnOk, OnErr, IfOk};
+ghost use Rattle.std.specs.Range.Bound.{bound_map};
 ghost use Rattle.ec_store.specs.Memory.{names_of};
-ghost use Rattle.ec_store.specs.Pages.{first_names, is_rising, IsPage};
+ghost use Rattle.ec_store.specs.Pages.{first_names, is_rising, IsPage, start_of};
 ghost use Rattle.ec_store.specs.Records.{dropped, filled, is_inside, is_past, is_within, named, replaced};
 
 use ec_attr::{Child, Name, NameList};
 use std::alloc::{AllocError, Global};
 use std::collections::BTreeMap;
+use std::ops::Bound;
 
 /// Sets or removes a name.
 pub fn set_name(
@@ -73,7 +75,20 @@ fn fill(names: &mut BTreeMap<Name, Child>, list: &NameList) -> Result<(), AllocE
     Ok(())
 }
 
-/// Replaces the names past `after` and not past `upto` by those of the list. What can find no memory comes first.
+/// Replaces the names past `after` and not past `upto` by those of the list. After want of memory some may be missing.
+pub fn put_names(
+    names: &mut BTreeMap<Name, Child>,
+    after: Option<&Name>,
+    upto: Option<&Name>,
+    list: &NameList,
+) -> Result<(), AllocError>
+    ensures { OnOk result (names_of names.new ≡ replaced (names_of names.old) (option_copied after.entry) (option_copied upto.entry) list.now) }
+{
+    drop_inside(names, after, upto);
+    fill(names, list)
+}
+
+/// The same, and after want of memory the names are as before.
 pub fn replace(
     names: &mut BTreeMap<Name, Child>,
     after: Option<&Name>,
@@ -84,14 +99,21 @@ pub fn replace(
     ensures err { OnErr result (names_of names.new ≡ names_of names.old) }
 {
     let mut fresh = copy_of(names)?;
-    drop_inside(&mut fresh, after, upto);
-    fill(&mut fresh, list)?;
+    put_names(&mut fresh, after, upto, list)?;
     *names = fresh;
     Ok(())
 }
 
+fn start_of(after: Option<&Name>) -> Bound<&Name>
+    ensures { bound_map (λ n. n.now) result ≡ start_of (option_copied after.entry) }
+{
+    match after {
+        Some(a) => Bound::Excluded(a),
+        None => Bound::Unbounded,
+    }
+}
+
 /// The first 64 names past `after`.
-#[tactic(auto, using(crate::proofs::Pages::first_names_page, crate::proofs::Pages::first_names_rise, crate::proofs::Pages::first_names_few))]
 pub fn page(
     alloc: Global,
     names: &BTreeMap<Name, Child>,
@@ -102,10 +124,14 @@ pub fn page(
     ensures rising { IfOk result (λ l. is_rising (option_copied after.entry) l ≡ true) }
     ensures few { IfOk result (λ l. length l ≤ 64) }
 {
+    let mut rest = names.range((start_of(after), Bound::Unbounded));
     let mut list = NameList::new(alloc);
-    for (n, c) in names {
-        if list.len() < 64 && is_past(after, n) {
-            list.push((n.copy()?, *c))?;
+    while list.len() < 64 {
+        match rest.next() {
+            Some((n, c)) => {
+                list.push((n.copy()?, *c))?;
+            }
+            None => return Ok(list),
         }
     }
     Ok(list)

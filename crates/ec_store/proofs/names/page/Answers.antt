@@ -1,30 +1,43 @@
-use Rattle.std.proofs.Common.{rules, ◌≡◌, ◌∙◌, ap, sym, subst, ◌≤◌, [], map, length, option_copied, arith}
-use Rattle.std.proofs.lemmas.Bool.Decides.{nat_tests}
-use Rattle.std.proofs.lemmas.Map.Iter.{iter_end}
-use Rattle.std.specs.Map.Iter.{deref_pair}
+use Rattle.std.proofs.Common.{rules, ◌≡◌, ◌≤◌, ◌∙◌, ap, inl, inr, sym, subst, option_copied}
 use Rattle.std.specs.Ordering.{nat_cmp}
+use Rattle.std.specs.Range.Bound.{bound_map}
 use Rattle.std.specs.Cmp.Lexicographic.{slice_cmp}
 use Rattle.std.specs.BTreeMap.{IsOrdered}
+use Rattle.std.specs.BTreeMap.Range.{entries_between}
+use Rattle.std.specs.declared.ops.Bound.TheVariants.{Unbounded}
 use Rattle.ec_store.specs.Memory.{names_of}
-use Rattle.ec_store.proofs.Pages.{first_names_page, first_names_rise, first_names_few}
-use Rattle.ec_store.specs.Pages.{taking, first_names, is_rising, IsPage}
-use Rattle.ec_store.proofs.NameMaps.{fold_more}
+use Rattle.ec_store.specs.Pages.{IsPage, is_rising}
+use Rattle.ec_store.proofs.Pages.{first_names_page, first_names_rise, first_of_range}
 use Rattle.ec_store.proofs.names.page.Goals as goal
 
-pub loop-n-preserved-then-is_past : goal.loop-n-preserved-then-is_past
-loop-n-preserved-then-is_past c = let e = fold_more (taking (option_copied c.args.after)) deref_pair [] c.loop-n.yielded (c.in-Some.n, c.in-Some.c) in let i = c.loop-n.invariant in grind (arith, nat_tests)
+-- at the end of the names
+pub returns-in-None-clause-value : goal.returns-in-None-clause-value
+returns-in-None-clause-value c =
+    let r : c.range-rest.result ≡ entries_between (slice_cmp nat_cmp) (bound_map (λ x. x.now) c.start_of.result) Unbounded c.args.names.now.entries = search rules in
+    first_of_range (option_copied c.args.after) (bound_map (λ x. x.now) c.start_of.result) c.args.names.now.entries c.range-rest.result c.loop-rest.list c.loop-rest.rest c.start_of.ensures r c.loop-rest.invariant.0 c.loop-rest.invariant.1 (inl c.in-None.ensures.steps.0)
 
-pub loop-n-preserved : goal.loop-n-preserved
-loop-n-preserved c = let e = fold_more (taking (option_copied c.args.after)) deref_pair [] c.loop-n.yielded (c.in-Some.n, c.in-Some.c) in let i = c.loop-n.invariant in grind (arith, nat_tests)
+pub returns-in-None-clause-page : goal.returns-in-None-clause-page
+returns-in-None-clause-page c =
+    let s : IsOrdered (slice_cmp nat_cmp) c.args.names.now = search rules in
+    subst (IsPage (option_copied c.args.after) (names_of c.args.names.now)) (sym (returns-in-None-clause-value c)) (first_names_page c.args.names.now (option_copied c.args.after) s)
 
+pub returns-in-None-clause-rising : goal.returns-in-None-clause-rising
+returns-in-None-clause-rising c =
+    let s : IsOrdered (slice_cmp nat_cmp) c.args.names.now = search rules in
+    ap (is_rising (option_copied c.args.after)) (returns-in-None-clause-value c) ∙ first_names_rise c.args.names.now (option_copied c.args.after) s
+
+-- with 64 names
 pub returns-clause-value : goal.returns-clause-value
-returns-clause-value c = let e : map deref_pair c.loop-n.yielded ≡ c.args.names.now.entries = search (rules, iter_end) in c.loop-n.invariant ∙ ap (first_names (option_copied c.args.after)) e
+returns-clause-value c =
+    let r : c.range-rest.result ≡ entries_between (slice_cmp nat_cmp) (bound_map (λ x. x.now) c.start_of.result) Unbounded c.args.names.now.entries = search rules in
+    first_of_range (option_copied c.args.after) (bound_map (λ x. x.now) c.start_of.result) c.args.names.now.entries c.range-rest.result c.loop-rest.list c.loop-rest.rest c.start_of.ensures r c.loop-rest.invariant.0 c.loop-rest.invariant.1 (inr (subst (λ n. 64 ≤ n) c.len.ensures c.loop-rest-test.false))
 
 pub returns-clause-page : goal.returns-clause-page
-returns-clause-page c = let e : map deref_pair c.loop-n.yielded ≡ c.args.names.now.entries = search (rules, iter_end) in let s : IsOrdered (slice_cmp nat_cmp) c.args.names.now = search rules in subst (IsPage (option_copied c.args.after) (names_of c.args.names.now)) (sym (c.loop-n.invariant ∙ ap (first_names (option_copied c.args.after)) e)) (first_names_page c.args.names.now (option_copied c.args.after) s)
+returns-clause-page c =
+    let s : IsOrdered (slice_cmp nat_cmp) c.args.names.now = search rules in
+    subst (IsPage (option_copied c.args.after) (names_of c.args.names.now)) (sym (returns-clause-value c)) (first_names_page c.args.names.now (option_copied c.args.after) s)
 
 pub returns-clause-rising : goal.returns-clause-rising
-returns-clause-rising c = let e : map deref_pair c.loop-n.yielded ≡ c.args.names.now.entries = search (rules, iter_end) in let s : IsOrdered (slice_cmp nat_cmp) c.args.names.now = search rules in ap (is_rising (option_copied c.args.after)) (c.loop-n.invariant ∙ ap (first_names (option_copied c.args.after)) e) ∙ first_names_rise c.args.names.now (option_copied c.args.after) s
-
-pub returns-clause-few : goal.returns-clause-few
-returns-clause-few c = let e : map deref_pair c.loop-n.yielded ≡ c.args.names.now.entries = search (rules, iter_end) in subst (λ l. length l ≤ 64) (sym (c.loop-n.invariant ∙ ap (first_names (option_copied c.args.after)) e)) (first_names_few c.args.names.now (option_copied c.args.after))
+returns-clause-rising c =
+    let s : IsOrdered (slice_cmp nat_cmp) c.args.names.now = search rules in
+    ap (is_rising (option_copied c.args.after)) (returns-clause-value c) ∙ first_names_rise c.args.names.now (option_copied c.args.after) s

@@ -1,7 +1,8 @@
-use Rattle.std.proofs.Common.{◌≡◌, map, option_copied}
-use Rattle.std.specs.Map.Iter.{deref_pair}
-use Rattle.ec_store.specs.Pages.{first_names}
+use Rattle.std.proofs.Common.{◌≡◌, ◌≤◌, ◌++◌, ◌-◌, length}
 use Rattle.ec_store.proofs.names.page.Given as goal
 
-abbrev pub invariant-loop-n : goal.invariant-loop-n
-invariant-loop-n l = l.list ≡ first_names (option_copied l.after) (map deref_pair l.yielded)
+abbrev pub invariant-loop-rest : goal.invariant-loop-rest
+invariant-loop-rest l = (l.list ++ l.rest ≡ l.initial.rest) × (length l.list ≤ 64)
+
+abbrev pub decreases-loop-rest : goal.decreases-loop-rest
+decreases-loop-rest l = 64 - length l.list

@@ -1,0 +1,4 @@
+pub mod Kept
+pub mod Phases
+pub mod PlaceOrder
+pub mod WordLemmas

@@ -1,0 +1,9 @@
+pub mod Answers
+pub mod Calls
+pub mod Entries
+pub mod Flight
+pub mod Lanes
+pub mod Phases
+pub mod Places
+pub mod Requests
+pub mod Words

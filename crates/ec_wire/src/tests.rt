@@ -1,0 +1,4 @@
+// What is wanted is written out by hand.
+
+mod flight;
+mod texts;

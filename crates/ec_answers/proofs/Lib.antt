@@ -1,0 +1,4 @@
+pub mod Agreement
+pub mod Counting
+pub mod GoodGroups
+pub mod Steps

@@ -1,0 +1,7 @@
+use Rattle.std.proofs.Common.{◌≡◌, ℕ, ◌&&◌, nat_lt}
+use Rattle.ec_attr.specs.Bricks.{is_in}
+use Rattle.ec_answers.specs.Grouping.{absent}
+use Rattle.ec_answers.proofs.sets.absent_bricks.Given as goal
+
+abbrev pub invariant-loop-b : goal.invariant-loop-b
+invariant-loop-b l = (c : ℕ) → is_in l.bricks c ≡ (nat_lt c l.b && absent l.a c)

@@ -1,0 +1,17 @@
+pub mod Done
+pub mod Dropping
+pub mod Exits
+pub mod GfidPages
+pub mod Indexed
+pub mod Known
+pub mod Locking
+pub mod NamePages
+pub mod NamePlaces
+pub mod Ready
+pub mod RecordsKnown
+pub mod Seeing
+pub mod Sets
+pub mod Steps
+pub mod StepsKnown
+pub mod Torn
+pub mod Walking

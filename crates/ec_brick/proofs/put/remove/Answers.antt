@@ -1,0 +1,7 @@
+use Rattle.std.proofs.Common.{◌∙◌, ap, sym, false}
+use Rattle.ec_index.specs.Members.{with_member}
+use Rattle.ec_brick.proofs.Sets.{taken_back}
+use Rattle.ec_brick.proofs.put.remove.Goals as goal
+
+pub returns-in-Err-clause-same : goal.returns-in-Err-clause-same
+returns-in-Err-clause-same g c = c.drop_from-in-Err.ensures ∙ ap (λ s. with_member s c.args.g.0 false) c.in_ok-add.ensures.ok ∙ taken_back _ c.args.g.0 (sym c.if-has.ensures)

@@ -1,0 +1,17 @@
+pub mod Bytes
+pub mod Fit
+pub mod Forget
+pub mod Gfids
+pub mod Index
+pub mod Inner
+pub mod Known
+pub mod KnownLaws
+pub mod Meets
+pub mod Opening
+pub mod Replies
+pub mod Rows
+pub mod StartFault
+pub mod State
+pub mod Step
+pub mod Walk
+pub mod Work

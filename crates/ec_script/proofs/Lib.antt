@@ -1,0 +1,15 @@
+pub mod BrickLemmas
+pub mod DataLemmas
+pub mod FileNames
+pub mod NumberLemmas
+pub mod OrderLemmas
+pub mod PhaseLemmas
+pub mod PrintedBricks
+pub mod PrintedCalls
+pub mod PrintedData
+pub mod PrintedEvents
+pub mod PrintedLines
+pub mod PrintedNumbers
+pub mod PrintedWords
+pub mod Scripts
+pub mod WordLemmas

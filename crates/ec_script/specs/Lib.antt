@@ -1,0 +1,10 @@
+pub mod Bricks
+pub mod Data
+pub mod Forms
+pub mod Generator
+pub mod Lines
+pub mod Numbers
+pub mod Orders
+pub mod Printed
+pub mod Results
+pub mod Words

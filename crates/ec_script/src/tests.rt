@@ -1,0 +1,6 @@
+// What is wanted is written out by hand.
+
+mod again;
+mod generator;
+mod lines;
+mod long;

@@ -1,0 +1,14 @@
+pub mod AccountExamples
+pub mod Runs
+pub mod Stories
+pub mod Pasts
+pub mod Examples
+pub mod NameExamples
+pub mod RunExample
+pub mod AnswerExamples
+pub mod Entries
+pub mod MomentExamples
+pub mod ScriptExamples
+pub mod StandingExamples
+pub mod Uncommitted
+pub mod Beginning

@@ -1,0 +1,17 @@
+pub mod Advancing
+pub mod Asking
+pub mod Cutting
+pub mod Empty
+pub mod Executed
+pub mod LettingIn
+pub mod Matching
+pub mod Moving
+pub mod Opened
+pub mod Risen
+pub mod Rooted
+pub mod Saying
+pub mod Soundness
+pub mod Torn
+pub mod TornBrick
+pub mod Unused
+pub mod Waiters

@@ -1,0 +1,9 @@
+pub mod Entries
+pub mod Inner
+pub mod Matches
+pub mod Open
+pub mod Said
+pub mod Sound
+pub mod Steps
+pub mod Tears
+pub mod Views

@@ -1,0 +1,9 @@
+pub mod Grants
+pub mod Moments
+pub mod Ballots
+pub mod Writes
+pub mod Sinks
+pub mod Heals
+pub mod Making
+pub mod Laws
+pub mod WorkedRun

@@ -1,0 +1,4 @@
+pub mod Index
+pub mod Clauses
+pub mod WorkedIndex
+pub mod Files

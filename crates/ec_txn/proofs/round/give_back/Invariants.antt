@@ -1,0 +1,10 @@
+use Rattle.std.proofs.Common.{◌≡◌, ◌++◌}
+use Rattle.ec_conduct.specs.Table.{to_bricks}
+use Rattle.ec_txn.specs.Lists.{Extends, back_at}
+use Rattle.ec_txn.proofs.round.give_back.Given as goal
+
+abbrev pub invariant-loop-brick : goal.invariant-loop-brick
+invariant-loop-brick l = record {
+  sends : l.sends ≡ l.fn.sends ++ to_bricks l.brick (back_at l.gfid.0 l.known.places.items);
+  within : Extends l.bricks l.brick l.fn.sends l.sends;
+}

@@ -1,0 +1,11 @@
+pub mod Ballot
+pub mod Digest
+pub mod Fetching
+pub mod Lists
+pub mod Next
+pub mod Opening
+pub mod ReadPhase
+pub mod Replies
+pub mod Rounds
+pub mod Steps
+pub mod Tables

@@ -1,0 +1,11 @@
+pub mod Finishing
+pub mod Frames
+pub mod Goings
+pub mod Sendings
+pub mod Beginnings
+pub mod Entries
+pub mod Hearings
+pub mod Idling
+pub mod Leavings
+pub mod Moves
+pub mod Places

@@ -1,0 +1,127 @@
+// What calls hear from bricks.
+ghost use Rattle.std.specs.Prelude.{◌≡◌, ℕ, ◌<◌, ◌++◌, ◌∷◌, [], List, false, true, None, Some, OnErr, OnOk, IsTrue};
+ghost use Rattle.ec_cluster.specs.Sound.{IsSound};
+ghost use Rattle.ec_cluster.specs.Views.{size_of};
+ghost use Rattle.ec_clients.specs.Calls.{tabled};
+ghost use Rattle.ec_clients.specs.Come.{Come};
+ghost use Rattle.ec_clients.specs.Going.{answer_entries, sent_entries};
+ghost use Rattle.ec_clients.specs.Hearing.{Hears, IsAwaited, IsIdle, IsReplyAt, reply_in};
+ghost use Rattle.ec_clients.specs.Steps.{Breaks, Goes, Seen};
+ghost use Rattle.ec_clients.specs.Views.{is_dead_at, is_released, slots_of};
+ghost use Rattle.ec_wire.specs.declared.entry.Entry.TheVariants.{Heard};
+
+use crate::clients::Clients;
+use crate::going::go_on;
+use ec_cluster::Cluster;
+use ec_txn::{Call, Sends};
+use ec_wire::{Body, Message, Reply};
+use std::alloc::{AllocError, Global};
+
+/// Message numbers stay below 2^62.
+pub(crate) const LAST: u64 = 0x4000_0000_0000_0000;
+
+/// The reply that a message is.
+fn into_reply(message: Message) -> Option<Reply>
+    ensures { result ≡ reply_in message.body }
+{
+    match message.body {
+        Body::ToClient { reply, .. } => Some(reply),
+        Body::ToBrick(_) => None,
+    }
+}
+
+/// Whether the client's call waits for the reply of a brick to this request.
+pub fn is_awaited<T, C: Call<T>>(
+    clients: &Clients<C>,
+    client: u8,
+    call: u32,
+    brick: u8,
+    re: u64,
+) -> bool
+    ensures yes { IsTrue result → IsAwaited C.stands clients.now call client brick re }
+    ensures not { result ≡ false → IsIdle C.stands clients.now call client brick re }
+{
+    match clients.running(client) {
+        Some(running) => {
+            if running.number == call {
+                match running.call.awaits(brick) {
+                    Some(number) => number == re,
+                    None => false,
+                }
+            } else {
+                false
+            }
+        }
+        None => false,
+    }
+}
+
+/// The client's call hears the reply that it waits for, and goes on.
+pub fn hear_awaited<T, C: Call<T>>(
+    clients: &mut Clients<C>,
+    cluster: &mut Cluster,
+    alloc: Global,
+    rows: &T,
+    no: u64,
+    client: u8,
+    call: u32,
+    brick: u8,
+    re: u64,
+) -> Result<(), AllocError>
+    requires sound { IsSound cluster.old }
+    requires size { size_of cluster.old ≡ clients.old.options.geometry.n }
+    requires seen { (p : Come) × Seen C.stands (tabled C.begins C.goes) cluster.old clients.old None p }
+    requires there { IsReplyAt cluster.old no call client brick re }
+    requires awaited { IsAwaited C.stands clients.old call client brick re }
+    requires lives { is_dead_at clients.old client ≡ false }
+    ensures ok { OnOk result (Hears C.stands (tabled C.begins C.goes) cluster.old cluster.new clients.old clients.new no call client) }
+    ensures options { OnOk result (clients.new.options ≡ clients.old.options) }
+    ensures err { OnErr result (Breaks clients.old.options.geometry (Seen C.stands (tabled C.begins C.goes) cluster.old clients.old None) cluster.old cluster.new) }
+{
+    let message = match cluster.take_reply(no) {
+        Ok(message) => message,
+        Err(e) => return Err(e),
+    };
+    let reply = match into_reply(message) {
+        Some(reply) => reply,
+        None => unreachable!(),
+    };
+    let mut running = match clients.take(client) {
+        Some(running) => running,
+        None => unreachable!(),
+    };
+    let next = cluster.next();
+    if next >= LAST {
+        return Err(AllocError);
+    }
+    let mut sends = Sends::new(alloc);
+    let turn = match running.call.hear(rows, next, brick, &reply, &mut sends) {
+        Ok(turn) => turn,
+        Err(e) => return Err(e),
+    };
+    go_on::<T, C>(clients, cluster, client, running, &sends, turn)
+}
+
+/// A reply that no call waits for is heard, and changes nothing.
+pub fn hear_idle<T, C: Call<T>>(
+    clients: &Clients<C>,
+    cluster: &mut Cluster,
+    no: u64,
+    client: u8,
+    call: u32,
+    brick: u8,
+    re: u64,
+) -> Result<(), AllocError>
+    requires sound { IsSound cluster.old }
+    requires there { IsReplyAt cluster.old no call client brick re }
+    requires idle { IsIdle C.stands clients.now call client brick re }
+    requires lives { is_dead_at clients.now client ≡ false }
+    ensures ok { OnOk result (Goes clients.now.options.geometry (Seen C.stands (tabled C.begins C.goes) cluster.old clients.now None) (Seen C.stands (tabled C.begins C.goes) cluster.new clients.now None) cluster.old cluster.new (Heard no ∷ [])) }
+    ensures err { OnErr result (Breaks clients.now.options.geometry (Seen C.stands (tabled C.begins C.goes) cluster.old clients.now None) cluster.old cluster.new) }
+{
+    let _message = match cluster.take_reply(no) {
+        Ok(message) => message,
+        Err(e) => return Err(e),
+    };
+    Ok(())
+}

@@ -1,0 +1,14 @@
+use Rattle.std.proofs.Common.{Some, None, cond, ◌∙◌, ap, map, sym}
+use Rattle.ec_clients.specs.Calls.{tabled}
+use Rattle.ec_world.specs.Refusals.{deliver_refusal}
+use Rattle.ec_world.specs.declared.refused.Refused.TheVariants.{Dead}
+use Rattle.ec_world.proofs.Delivering.{stepped_told, to_client}
+use Rattle.ec_world.proofs.delivery.deliver.Goals as goal
+
+pub hear-requires-clause-there : goal.hear-requires-clause-there
+hear-requires-clause-there g c = (to_client c.args.cluster.now c.args.clients.now c.in-Some.no c.in-Some-Client.client c.in-Some-Client.call c.in-Some-Client.brick c.in-Some-Client.re c.requires.sound (sym c.address.ensures ∙ (c.in-Some-Client.is ∙ ap Some c.in-Some-Client.field-0-is))).there
+
+pub returns-else-is_dead-clause-stepped : goal.returns-else-is_dead-clause-stepped
+returns-else-is_dead-clause-stepped g c = stepped_told g.C.Conduct.stands (tabled g.C.Conduct.begins g.C.Conduct.goes) c.args.cluster.now c.hear.new.cluster c.args.clients.now c.hear.new.clients (map g.S.BrickStore.records c.args.stores.now) (map g.S.BrickStore.records c.args.stores.now) (deliver_refusal c.args.cluster.now c.args.clients.now c.args.which c.args.named)
+    (ap (deliver_refusal c.args.cluster.now c.args.clients.now c.args.which) c.in-Some.is ∙ ((to_client c.args.cluster.now c.args.clients.now c.in-Some.no c.in-Some-Client.client c.in-Some-Client.call c.in-Some-Client.brick c.in-Some-Client.re c.requires.sound (sym c.address.ensures ∙ (c.in-Some-Client.is ∙ ap Some c.in-Some-Client.field-0-is))).refusal ∙ sym (λ k. cond (c.if-is_dead.ensures k) (Some (Dead c.in-Some-Client.client)) None)))
+    _ c.hear.result (c.hear.ensures (map g.S.BrickStore.records c.args.stores.now))

@@ -1,0 +1,128 @@
+// Events of bricks and of messages, which no client decides.
+ghost use Rattle.std.specs.Prelude.{◌≡◌, ℕ, List, Option, Some, None, true, length, map};
+ghost use Rattle.std.specs.List.{list_all};
+ghost use Rattle.ec_cluster.specs.Views.{can_execute, size_of};
+ghost use Rattle.ec_clients.specs.Calls.{tabled};
+ghost use Rattle.ec_cluster.specs.Sound.{IsSound};
+ghost use Rattle.ec_store.specs.Records.{Records};
+ghost use Rattle.ec_world.specs.Events.{Stepped};
+ghost use Rattle.ec_world.specs.Refusals.{IsFound, lose_refusal, return_refusal, stop_refusal};
+
+use crate::named::missing;
+use crate::refused::Refused;
+use ec_clients::{Clients, brick_law, reply_law};
+use ec_cluster::Cluster;
+use ec_store::BrickStore;
+use ec_txn::Conduct;
+use ec_wire::Which;
+
+/// A brick stops.
+pub fn stop<C: Conduct>(
+    clients: &Clients<C>,
+    cluster: &mut Cluster,
+    brick: u8,
+) -> Result<(), Refused>
+    requires sound { IsSound cluster.old }
+    ensures { (records : List Records) → Stepped C.stands (tabled C.begins C.goes) (Unit {0}) cluster.old cluster.new clients.now clients.now records records (stop_refusal cluster.old brick) result }
+{
+    if usize::from(brick) >= cluster.bricks().len() {
+        return Err(Refused::NoBrick(brick));
+    }
+    if !cluster.is_up(brick) {
+        return Err(Refused::Down(brick));
+    }
+    brick_law::<C>();
+    match cluster.stop(brick) {
+        Ok(()) => Ok(()),
+        Err(_) => Err(Refused::NoMemory),
+    }
+}
+
+/// A stopped brick comes back.
+pub fn return_brick<C: Conduct>(
+    clients: &Clients<C>,
+    cluster: &mut Cluster,
+    brick: u8,
+) -> Result<(), Refused>
+    requires sound { IsSound cluster.old }
+    ensures { (records : List Records) → Stepped C.stands (tabled C.begins C.goes) (Unit {0}) cluster.old cluster.new clients.now clients.now records records (return_refusal cluster.old brick) result }
+{
+    if usize::from(brick) >= cluster.bricks().len() {
+        return Err(Refused::NoBrick(brick));
+    }
+    if cluster.is_up(brick) {
+        return Err(Refused::Up(brick));
+    }
+    brick_law::<C>();
+    match cluster.start(brick) {
+        Ok(()) => Ok(()),
+        Err(_) => Err(Refused::NoMemory),
+    }
+}
+
+/// A message in flight is lost. `named` is the number that `which` names.
+pub fn lose<C: Conduct>(
+    clients: &Clients<C>,
+    cluster: &mut Cluster,
+    which: Which,
+    named: Option<u64>,
+) -> Result<(), Refused>
+    requires sound { IsSound cluster.old }
+    requires named { IsFound cluster.old which named }
+    ensures { (records : List Records) → Stepped C.stands (tabled C.begins C.goes) (Unit {0}) cluster.old cluster.new clients.now clients.now records records (lose_refusal which named) result }
+{
+    let no = match named {
+        Some(no) => no,
+        None => return Err(missing(which)),
+    };
+    brick_law::<C>();
+    match cluster.lose(no) {
+        Ok(()) => Ok(()),
+        Err(_) => Err(Refused::NoMemory),
+    }
+}
+
+/// A brick that is up ends the grants and waiters of a client.
+pub fn cut<C: Conduct>(
+    clients: &Clients<C>,
+    cluster: &mut Cluster,
+    client: u8,
+    brick: u8,
+) -> Result<(), Refused>
+    requires sound { IsSound cluster.old }
+    ensures { (records : List Records) → Stepped C.stands (tabled C.begins C.goes) (Unit {0}) cluster.old cluster.new clients.now clients.now records records (stop_refusal cluster.old brick) result }
+{
+    if usize::from(brick) >= cluster.bricks().len() {
+        return Err(Refused::NoBrick(brick));
+    }
+    if !cluster.is_up(brick) {
+        return Err(Refused::Down(brick));
+    }
+    brick_law::<C>();
+    reply_law();
+    match cluster.cut(client, brick) {
+        Ok(()) => Ok(()),
+        Err(_) => Err(Refused::NoMemory),
+    }
+}
+
+/// The brick of a request in flight, which is up, executes it.
+pub fn execute<S: BrickStore, C: Conduct>(
+    clients: &Clients<C>,
+    cluster: &mut Cluster,
+    stores: &mut [S],
+    no: u64,
+) -> Result<(), Refused>
+    requires sound { IsSound cluster.old }
+    requires stores { length stores.old ≡ size_of cluster.old }
+    requires request { can_execute cluster.old no ≡ true }
+    ensures tells { list_all S.told stores.new ≡ list_all S.told stores.old }
+    ensures stepped { Stepped C.stands (tabled C.begins C.goes) (list_all S.told stores.old ≡ true) cluster.old cluster.new clients.now clients.now (map S.records stores.old) (map S.records stores.new) None result }
+{
+    brick_law::<C>();
+    reply_law();
+    match cluster.execute(stores, no) {
+        Ok(()) => Ok(()),
+        Err(_) => Err(Refused::NoMemory),
+    }
+}

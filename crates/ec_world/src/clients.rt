@@ -1,0 +1,131 @@
+// Events of clients.
+ghost use Rattle.std.specs.Prelude.{◌≡◌, ◌<◌, ◌-◌, ◌^◌, ℕ, List, Option, Some, None, false, length};
+ghost use Rattle.ec_clients.specs.Come.{Come};
+ghost use Rattle.ec_clients.specs.Hearing.{IsReplyAt, IsWaiting};
+ghost use Rattle.ec_clients.specs.Steps.{Seen};
+ghost use Rattle.ec_clients.specs.Views.{is_dead_at, slots_of};
+ghost use Rattle.ec_cluster.specs.Views.{size_of};
+ghost use Rattle.ec_clients.specs.Calls.{tabled};
+ghost use Rattle.ec_cluster.specs.Sound.{IsSound};
+ghost use Rattle.ec_store.specs.Records.{Records};
+ghost use Rattle.ec_world.specs.Events.{Stepped};
+ghost use Rattle.ec_world.specs.Refusals.{call_refusal, die_refusal, yield_refusal};
+
+use crate::refused::Refused;
+use ec_clients::{Begins, Clients, hear_awaited, hear_idle, is_awaited, leave};
+use ec_cluster::Cluster;
+use ec_txn::Call;
+use ec_wire::Op;
+use std::alloc::Global;
+
+/// A client dies.
+pub fn die<T, C: Call<T>>(
+    clients: &mut Clients<C>,
+    cluster: &mut Cluster,
+    client: u8,
+) -> Result<(), Refused>
+    requires sound { IsSound cluster.old }
+    requires there { client < length clients.old.dead.items }
+    ensures { (records : List Records) → Stepped C.stands (tabled C.begins C.goes) (Unit {0}) cluster.old cluster.new clients.old clients.new records records (die_refusal clients.old client) result }
+{
+    if clients.is_dead(client) {
+        return Err(Refused::Dead(client));
+    }
+    match ec_clients::die::<T, C>(clients, cluster, client) {
+        Ok(()) => Ok(()),
+        Err(_) => Err(Refused::NoMemory),
+    }
+}
+
+/// A client yields: none keeps grants.
+pub fn yield_grants<C>(clients: &Clients<C>, client: u8) -> Refused
+    ensures { Some result ≡ yield_refusal clients.now client }
+{
+    if clients.is_dead(client) {
+        Refused::Dead(client)
+    } else {
+        Refused::NotKeeping(client)
+    }
+}
+
+/// A client calls.
+pub fn call<T, C: Begins<T>>(
+    clients: &mut Clients<C>,
+    cluster: &mut Cluster,
+    alloc: Global,
+    client: u8,
+    op: &Op,
+) -> Result<(), Refused>
+    requires sound { IsSound cluster.old }
+    requires size { size_of cluster.old ≡ clients.old.options.geometry.n }
+    requires there { client < length (slots_of clients.old) }
+    requires calls { clients.old.calls < 2 ^ 32 - 1 }
+    ensures { (records : List Records) → Stepped C.stands (tabled C.begins C.goes) (Unit {0}) cluster.old cluster.new clients.old clients.new records records (call_refusal clients.old client) result }
+{
+    if clients.is_dead(client) {
+        return Err(Refused::Dead(client));
+    }
+    match clients.running(client) {
+        Some(running) => return Err(Refused::Busy(running.number)),
+        None => {}
+    }
+    match ec_clients::begin::<T, C>(clients, cluster, alloc, client, op) {
+        Ok(()) => Ok(()),
+        Err(_) => Err(Refused::NoMemory),
+    }
+}
+
+/// A client hears a reply. Its call goes on where it waits for it.
+pub fn hear<T, C: Call<T>>(
+    clients: &mut Clients<C>,
+    cluster: &mut Cluster,
+    alloc: Global,
+    rows: &T,
+    no: u64,
+    client: u8,
+    call: u32,
+    brick: u8,
+    re: u64,
+) -> Result<(), Refused>
+    requires sound { IsSound cluster.old }
+    requires size { size_of cluster.old ≡ clients.old.options.geometry.n }
+    requires seen { (p : Come) × Seen C.stands (tabled C.begins C.goes) cluster.old clients.old None p }
+    requires there { IsReplyAt cluster.old no call client brick re }
+    requires lives { is_dead_at clients.old client ≡ false }
+    ensures { (records : List Records) → Stepped C.stands (tabled C.begins C.goes) (Unit {0}) cluster.old cluster.new clients.old clients.new records records None result }
+{
+    if is_awaited::<T, C>(clients, client, call, brick, re) {
+        match hear_awaited::<T, C>(clients, cluster, alloc, rows, no, client, call, brick, re) {
+            Ok(()) => Ok(()),
+            Err(_) => Err(Refused::NoMemory),
+        }
+    } else {
+        match hear_idle::<T, C>(clients, cluster, no, client, call, brick, re) {
+            Ok(()) => Ok(()),
+            Err(_) => Err(Refused::NoMemory),
+        }
+    }
+}
+
+/// A client gives up a brick, of which its call waits for the reply to request `no`.
+pub fn give_up<T, C: Call<T>>(
+    clients: &mut Clients<C>,
+    cluster: &mut Cluster,
+    alloc: Global,
+    rows: &T,
+    client: u8,
+    brick: u8,
+    no: u64,
+) -> Result<(), Refused>
+    requires sound { IsSound cluster.old }
+    requires size { size_of cluster.old ≡ clients.old.options.geometry.n }
+    requires seen { (p : Come) × Seen C.stands (tabled C.begins C.goes) cluster.old clients.old None p }
+    requires waiting { IsWaiting C.stands clients.old client brick no }
+    requires lives { is_dead_at clients.old client ≡ false }
+    ensures { (records : List Records) → Stepped C.stands (tabled C.begins C.goes) (Unit {0}) cluster.old cluster.new clients.old clients.new records records None result }
+{
+    match leave::<T, C>(clients, cluster, alloc, rows, client, brick, no) {
+        Ok(()) => Ok(()),
+        Err(_) => Err(Refused::NoMemory),
+    }
+}

@@ -1,5 +1,7 @@
-// A stat on three bricks, reply by reply.
+// A stat on three bricks, reply by reply; `read` has the reads.
 ghost use Rattle.std.specs.Prelude.{◌<◌, ◌^◌};
+
+mod read;
 
 use crate::{StatCall, begin_stat};
 use ec_attr::{Attr, Config, Dirty, Geometry, Gfid, Head, Kind, Policy, Version};

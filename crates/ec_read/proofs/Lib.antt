@@ -1,0 +1,4 @@
+pub mod Gathered
+pub mod Givers
+pub mod Known
+pub mod Parts

@@ -1,0 +1,4 @@
+pub mod Filling
+pub mod Following
+pub mod Gathered
+pub mod Givers

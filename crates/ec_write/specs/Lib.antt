@@ -1,0 +1,13 @@
+pub mod Between
+pub mod Bytes
+pub mod During
+pub mod Filled
+pub mod Numbers
+pub mod Olds
+pub mod Range
+pub mod Sendings
+pub mod Stripes
+pub mod Windows
+pub mod Write
+pub mod WriteSound
+pub mod Writings

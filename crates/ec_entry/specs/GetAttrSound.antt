@@ -1,5 +1,5 @@
 -- The table of a getattr keeps the conduct.
-use Rattle.std.proofs.Common.{◌≡◌, Bool, true, false, refl, sym, ◌∙◌, ap, subst}
+use Rattle.std.proofs.Common.{◌≡◌, true, false, refl, sym, ◌∙◌, subst}
 use Rattle.ec_attr.specs.declared.kind.LockKind.TheVariants.{Shared}
 use Rattle.ec_conduct.specs.Account.{Account}
 use Rattle.ec_conduct.specs.Conduct.{IsEarned}

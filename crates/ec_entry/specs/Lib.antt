@@ -1,8 +1,16 @@
 pub mod Asked
+pub mod Changing
 pub mod GetAttr
 pub mod GetAttrSound
 pub mod Lookup
 pub mod LookupSound
+pub mod Make
+pub mod MakeSays
+pub mod MakeSound
+pub mod Members
+pub mod MembersSound
 pub mod Named
+pub mod Naming
+pub mod Queried
 pub mod SetAttr
 pub mod SetAttrSound

@@ -2,16 +2,13 @@
 use Rattle.std.specs.Prelude.{◌≡◌, false, ℕ, List, []}
 use Rattle.ec_answers.specs.declared.grouped.Grouped.{Grouped}
 use Rattle.ec_answers.specs.declared.grouped.Grouped.TheVariants.{Group as Found, Gone, Fewer}
-use Rattle.ec_attr.specs.declared.kind.Child.{Child as ChildOf}
-use Rattle.std.specs.declared.option.Option.{Option}
 use Rattle.std.specs.declared.option.Option.TheVariants.{None, Some}
 use Rattle.ec_attr.specs.declared.kind.Kind.{Kind}
 use Rattle.ec_attr.specs.declared.kind.Kind.TheVariants.{File, Dir}
 use Rattle.ec_attr.specs.declared.kind.LockKind.TheVariants.{Shared}
 use Rattle.ec_conduct.specs.Account.{Account}
 use Rattle.ec_conduct.specs.Given.{bricks_of, quorum_of}
-use Rattle.ec_txn.specs.declared.opening.Opening.{Opening}
-use Rattle.ec_txn.specs.declared.opening.Opening.TheVariants.{Lock, Query}
+use Rattle.ec_txn.specs.declared.opening.Opening.TheVariants.{Lock}
 use Rattle.ec_txn.specs.declared.stage.Next.{Next}
 use Rattle.ec_txn.specs.declared.stage.Next.TheVariants.{Go, Say}
 use Rattle.ec_txn.specs.Fetching.{IsFetching, asks_of}

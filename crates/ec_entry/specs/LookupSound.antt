@@ -10,11 +10,9 @@ use Rattle.ec_conduct.specs.Conduct.{IsEarned, MaySend}
 use Rattle.ec_conduct.specs.Given.{Given, bricks_of}
 use Rattle.ec_conduct.specs.Opened.{opened}
 use Rattle.ec_txn.specs.declared.ctx.Ctx.{Ctx}
-use Rattle.ec_txn.specs.declared.opening.Opening.{Opening}
 use Rattle.ec_txn.specs.declared.opening.Opening.TheVariants.{Lock, Query}
 use Rattle.ec_txn.specs.declared.stage.Next.TheVariants.{Go, Say}
-use Rattle.ec_txn.specs.Opening.{InOpening, opening_asks}
-use Rattle.ec_txn.specs.Rounds.{Asks, IsIdle, IsOn, IsReleased, IsRound, IsSent, IsUnlocked, subject}
+use Rattle.ec_txn.specs.Rounds.{Asks, IsIdle, IsOn, IsRound, IsSent, IsUnlocked, subject}
 use Rattle.ec_txn.specs.Fetching.{IsFetching, asks_of}
 use Rattle.ec_txn.specs.Tables.{IsIn, IsOf, IsSound}
 use Rattle.ec_txn.proofs.Fetching.{fetch_may, fetch_on, fetching}

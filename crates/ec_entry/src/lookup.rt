@@ -2,8 +2,7 @@
 ghost use Rattle.std.specs.Prelude.{◌≡◌, ◌<◌, ◌^◌, ℕ, IfOk, Ok, [], vec_len};
 ghost use Rattle.std.specs.declared.option.Option.TheVariants.{None};
 ghost use Rattle.ec_conduct.specs.Account.{Account};
-ghost use Rattle.ec_entry.specs.Asked.{asked_name};
-ghost use Rattle.ec_txn.specs.Digest.{Shows, place_at};
+ghost use Rattle.ec_txn.specs.Digest.{Shows};
 ghost use Rattle.ec_txn.specs.Rounds.{subject};
 ghost use Rattle.ec_txn.specs.Tables.{IsOf};
 ghost use Rattle.ec_conduct.specs.Given.{bricks_of};
@@ -13,6 +12,7 @@ ghost use Rattle.ec_txn.specs.Next.{next_as};
 ghost use Rattle.ec_wire.specs.declared.op.Op.TheVariants.{Lookup as LookupOp};
 ghost use Rattle.ec_entry.specs.declared.lookup.LookupStage.TheVariants.{Opens as OpensOf};
 
+use crate::asked::name_request;
 use crate::named::{Named, name_value};
 use ec_answers::Grouped;
 use ec_attr::{BrickSet, Gfid, Kind, LockKind, Name};
@@ -89,32 +89,6 @@ fn after_opening(ctx: &Ctx, opening: &Opening, known: &Known) -> Next<LookupStag
     }
 }
 
-impl Lookup {
-    /// What a brick of the group is asked under its lock.
-    fn name_of(
-        &self,
-        ctx: &Ctx,
-        bricks: &BrickSet,
-        known: &Known,
-        brick: u8,
-    ) -> Result<Option<Request>, AllocError>
-        requires { brick < 31 }
-        ensures { IfOk result (λ request. request ≡ asked_name bricks.now ctx.now.geometry.n self.now.parent.0 self.now.name (place_at known.now.places.items brick).lock brick) }
-    {
-        if !bricks.has(brick) || brick >= ctx.geometry.n {
-            return Ok(None);
-        }
-        match known.place(brick).lock {
-            Some(lock) if lock.granted => Ok(Some(Request::NameGet {
-                gfid: self.parent,
-                grant: lock.number,
-                name: self.name.copy()?,
-            })),
-            _ => Ok(None),
-        }
-    }
-}
-
 impl Plan for Lookup {
     ghost use Rattle.ec_entry.specs.Lookup.{DuringLookup, lookup_table};
 
@@ -162,7 +136,9 @@ impl<T> Work<T> for Lookup {
             LookupStage::Opens(opening) => {
                 Ok(opening.request(ctx, self.parent, LockKind::Shared, known, brick))
             }
-            LookupStage::Name(bricks) => self.name_of(ctx, bricks, known, brick),
+            LookupStage::Name(bricks) => {
+                name_request(ctx, self.parent, &self.name, bricks, known, brick)
+            }
         }
     }
 

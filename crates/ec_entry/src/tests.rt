@@ -24,7 +24,7 @@ fn ctx() -> Result<Ctx, Fail> {
     }
 }
 
-fn head(geometry: Geometry, kind: Kind) -> Head {
+pub fn head(geometry: Geometry, kind: Kind) -> Head {
     Head {
         kind,
         config: Config { geometry },
@@ -41,7 +41,7 @@ fn head(geometry: Geometry, kind: Kind) -> Head {
     }
 }
 
-fn file(gfid: u128) -> Option<Child> {
+pub fn file(gfid: u128) -> Option<Child> {
     Some(Child {
         kind: Kind::File,
         gfid: Gfid(gfid),

@@ -1,5 +1,5 @@
-use Rattle.std.proofs.Common.{◌≡◌, sym, subst, ◌∙◌}
-use Rattle.ec_txn.specs.declared.opening.Opening.TheVariants.{Lock, Query}
+use Rattle.std.proofs.Common.{sym, subst}
+use Rattle.ec_txn.specs.declared.opening.Opening.TheVariants.{Lock}
 use Rattle.ec_txn.proofs.Openings.{lock_into}
 use Rattle.ec_entry.specs.Lookup.{LookupFollows, LookupJudges}
 use Rattle.ec_entry.specs.declared.lookup.LookupStage.TheVariants.{Opens}

@@ -2,7 +2,7 @@ use Rattle.std.proofs.Common.{refl, None, [], ap}
 use Rattle.ec_wire.specs.declared.op.Op.TheVariants.{Lookup}
 use Rattle.ec_txn.specs.Steps.{given_of}
 use Rattle.ec_txn.proofs.Turns.{given_is_of, if_more}
-use Rattle.std.proofs.Common.{◌≡◌, sym, List, ℕ}
+use Rattle.std.proofs.Common.{sym, List, ℕ}
 use Rattle.ec_entry.proofs.lookup.begin_lookup.Goals as goal
 
 pub returns : goal.returns

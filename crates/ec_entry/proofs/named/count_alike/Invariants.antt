@@ -1,4 +1,4 @@
-use Rattle.std.proofs.Common.{◌≡◌, ◌≤◌, is_some}
+use Rattle.std.proofs.Common.{◌≡◌, ◌≤◌}
 use Rattle.ec_attr.specs.Bricks.{count_below}
 use Rattle.ec_entry.specs.Named.{said, says}
 use Rattle.ec_txn.specs.Replies.{reply_at}

@@ -1,6 +1,6 @@
 use Rattle.std.proofs.Common.{◌≡◌, ◌≤◌, is_some}
 use Rattle.ec_attr.specs.Bricks.{count_below}
-use Rattle.ec_entry.specs.Named.{said, says}
+use Rattle.ec_entry.specs.Named.{said}
 use Rattle.ec_txn.specs.Replies.{reply_at}
 use Rattle.ec_entry.proofs.named.count_replies.Given as goal
 

@@ -1,5 +1,5 @@
-use Rattle.std.proofs.Common.{◌≡◌, ℕ, ◌≤◌, arith, subst, sym, ◌∙◌}
-use Rattle.ec_entry.specs.Named.{count_of, count_said, said}
+use Rattle.std.proofs.Common.{◌≡◌, ℕ, ◌≤◌, arith, subst, ◌∙◌}
+use Rattle.ec_entry.specs.Named.{count_of, said}
 use Rattle.ec_txn.specs.Replies.{reply_at}
 use Rattle.ec_entry.proofs.Naming.{all_alike, none_said}
 use Rattle.ec_entry.proofs.named.name_value.Goals as goal

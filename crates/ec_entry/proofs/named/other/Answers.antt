@@ -1,4 +1,4 @@
-use Rattle.std.proofs.Common.{◌≡◌, sym, ◌∙◌}
+use Rattle.std.proofs.Common.{sym, ◌∙◌}
 use Rattle.ec_entry.specs.Named.{said}
 use Rattle.ec_txn.specs.Replies.{reply_at}
 use Rattle.ec_entry.proofs.Naming.{none_differs, one_more, same_differs}

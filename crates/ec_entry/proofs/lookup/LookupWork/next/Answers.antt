@@ -1,9 +1,7 @@
-use Rattle.std.proofs.Common.{◌≡◌, sym, subst, ◌∙◌, ap}
-use Rattle.ec_txn.specs.declared.opening.Opening.TheVariants.{Lock, Query}
+use Rattle.std.proofs.Common.{sym, subst, ◌∙◌, ap}
 use Rattle.ec_txn.specs.declared.stage.Next.TheVariants.{Say}
-use Rattle.ec_txn.proofs.Openings.{lock_into}
-use Rattle.ec_entry.specs.Lookup.{LookupFollows, LookupJudges}
-use Rattle.ec_entry.specs.declared.lookup.LookupStage.TheVariants.{Opens, Name}
+use Rattle.ec_entry.specs.Lookup.{LookupFollows}
+use Rattle.ec_entry.specs.declared.lookup.LookupStage.TheVariants.{Opens}
 use Rattle.ec_entry.proofs.Naming.{named_at}
 use Rattle.ec_entry.proofs.lookup.LookupWork.next.Goals as goal
 use Rattle.ec_entry.proofs.lookup.LookupWork.next.Goals.{in-Opens, in-Name}

@@ -8,7 +8,7 @@ use Rattle.ec_conduct.specs.Opened.{account}
 use Rattle.ec_conduct.specs.Own.{Own}
 use Rattle.ec_conduct.specs.Table.{IsByTable, IsByTurns, Step, Turned, step_entries}
 use Rattle.ec_wire.specs.declared.op.Op.{Op}
-use Rattle.ec_wire.specs.declared.op.Op.TheVariants.{Lookup, Stat}
+use Rattle.ec_wire.specs.declared.op.Op.TheVariants.{Create, GetAttr, Lookup, Mkdir, Read, SetAttr, Stat, Write}
 
 -- the same step, its stage being one of any call
 abbrev pub step_as : {P Q : Type 0} → (P → Q) → Step P → Step Q
@@ -40,4 +40,10 @@ table_as f begins goes begins' goes' b g given es stage (ts, by) = (map (turn_as
 abbrev pub IsBuilt : Op → Type 0
 IsBuilt (Stat g) = Unit {0}
 IsBuilt (Lookup g name) = Unit {0}
+IsBuilt (GetAttr g) = Unit {0}
+IsBuilt (SetAttr g attr) = Unit {0}
+IsBuilt (Read g off len via) = Unit {0}
+IsBuilt (Write g off bytes) = Unit {0}
+IsBuilt (Create g name) = Unit {0}
+IsBuilt (Mkdir g name) = Unit {0}
 IsBuilt op = ⊥

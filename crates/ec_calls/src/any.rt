@@ -5,12 +5,17 @@ ghost use Rattle.ec_calls.specs.Any.{IsBuilt};
 ghost use Rattle.ec_txn.specs.Steps.{Adds, given_of};
 ghost use Rattle.ec_wire.specs.declared.answer.Answer.{Answer as AnswerOf};
 
-use ec_attr::BrickSet;
+use ec_attr::{BrickSet, Kind};
+use ec_bank::RowTimes;
 use ec_conduct::Kept;
-use ec_entry::{LookupCall, LookupStage, begin_lookup};
-use ec_read::{StatCall, begin_stat};
+use ec_entry::{
+    GetAttrCall, LookupCall, LookupStage, MakeCall, MakeStage, SetAttrCall, SetAttrStage,
+    begin_getattr, begin_lookup, begin_make, begin_setattr,
+};
+use ec_read::{ReadCall, ReadStage, StatCall, begin_read, begin_stat};
 use ec_txn::{Call, Conduct, Ctx, Opening, Sends, Turn};
 use ec_wire::{Answer, Op, Phase, Reply};
+use ec_write::{WriteCall, WriteStage, begin_write};
 use std::alloc::{AllocError, Global};
 
 /// Any call.
@@ -18,42 +23,61 @@ use std::alloc::{AllocError, Global};
 pub enum AnyCall {
     Stat(StatCall),
     Lookup(LookupCall),
-    /// Never begun; it makes room for the next call.
-    Never,
+    GetAttr(GetAttrCall),
+    SetAttr(SetAttrCall),
+    Read(ReadCall),
+    Write(WriteCall),
+    /// A create or a mkdir.
+    Make(MakeCall),
 }
 
 /// A stage of any call.
-#[derive(Clone, Copy, Debug)]
+#[derive(Debug, Drop)]
 pub enum AnyStage {
     Stat(Opening),
     Lookup(LookupStage),
+    GetAttr(Opening),
+    SetAttr(SetAttrStage),
+    Read(ReadStage),
+    Write(WriteStage),
+    Make(MakeStage),
 }
 
 /// Whether calls of this kind are built.
 pub fn is_built(op: &Op) -> bool
     ensures { IsTrue result ↔ IsBuilt op.now }
 {
-    matches!(op, Op::Stat { .. } | Op::Lookup { .. })
+    matches!(
+        op,
+        Op::Stat { .. }
+            | Op::Lookup { .. }
+            | Op::GetAttr { .. }
+            | Op::SetAttr { .. }
+            | Op::Read { .. }
+            | Op::Write { .. }
+            | Op::Create { .. }
+            | Op::Mkdir { .. }
+    )
 }
 
 impl Conduct for AnyCall {
     ghost use Rattle.std.specs.Option.{option_map};
     ghost use Rattle.std.specs.Prelude.{◌⊎◌};
     ghost use Rattle.ec_calls.specs.Any.{Begins, Goes};
-    ghost use Rattle.ec_calls.specs.declared.any.AnyCall.TheVariants.{Lookup as LookupOf, Never, Stat as StatOf};
-    ghost use Rattle.ec_calls.specs.declared.any.AnyStage.TheVariants.{Lookup as LookupAt, Stat as StatStage};
+    ghost use Rattle.ec_calls.specs.declared.any.AnyCall.TheVariants.{GetAttr as GetAttrOf, Lookup as LookupOf, Make as MakeOf, Read as ReadOf, SetAttr as SetAttrOf, Stat as StatOf, Write as WriteOf};
+    ghost use Rattle.ec_calls.specs.declared.any.AnyStage.TheVariants.{GetAttr as GetAttrAt, Lookup as LookupAt, Make as MakeAt, Read as ReadAt, SetAttr as SetAttrAt, Stat as StatAt, Write as WriteAt};
 
     type Stage = AnyStage;
 
-    ghost begins = { λ x given step. Begins StatStage (⟦<StatCall as Conduct>⟧.begins x) given step ⊎ Begins LookupAt (⟦<LookupCall as Conduct>⟧.begins x) given step };
+    ghost begins = { λ x given step. Begins StatAt (⟦<StatCall as Conduct>⟧.begins x) given step ⊎ Begins LookupAt (⟦<LookupCall as Conduct>⟧.begins x) given step ⊎ Begins GetAttrAt (⟦<GetAttrCall as Conduct>⟧.begins x) given step ⊎ Begins SetAttrAt (⟦<SetAttrCall as Conduct>⟧.begins x) given step ⊎ Begins ReadAt (⟦<ReadCall as Conduct>⟧.begins x) given step ⊎ Begins WriteAt (⟦<WriteCall as Conduct>⟧.begins x) given step ⊎ Begins MakeAt (⟦<MakeCall as Conduct>⟧.begins x) given step };
 
-    ghost goes = { λ x stage c step. elim stage [ StatStage p ↦ Goes StatStage (⟦<StatCall as Conduct>⟧.goes x) p c step | LookupAt p ↦ Goes LookupAt (⟦<LookupCall as Conduct>⟧.goes x) p c step ] };
+    ghost goes = { λ x stage c step. elim stage [ StatAt p ↦ Goes StatAt (⟦<StatCall as Conduct>⟧.goes x) p c step | LookupAt p ↦ Goes LookupAt (⟦<LookupCall as Conduct>⟧.goes x) p c step | GetAttrAt p ↦ Goes GetAttrAt (⟦<GetAttrCall as Conduct>⟧.goes x) p c step | SetAttrAt p ↦ Goes SetAttrAt (⟦<SetAttrCall as Conduct>⟧.goes x) p c step | ReadAt p ↦ Goes ReadAt (⟦<ReadCall as Conduct>⟧.goes x) p c step | WriteAt p ↦ Goes WriteAt (⟦<WriteCall as Conduct>⟧.goes x) p c step | MakeAt p ↦ Goes MakeAt (⟦<MakeCall as Conduct>⟧.goes x) p c step ] };
 
-    ghost phase_of = { λ stage. elim stage [ StatStage p ↦ ⟦<StatCall as Conduct>⟧.phase_of p | LookupAt p ↦ ⟦<LookupCall as Conduct>⟧.phase_of p ] };
+    ghost phase_of = { λ stage. elim stage [ StatAt p ↦ ⟦<StatCall as Conduct>⟧.phase_of p | LookupAt p ↦ ⟦<LookupCall as Conduct>⟧.phase_of p | GetAttrAt p ↦ ⟦<GetAttrCall as Conduct>⟧.phase_of p | SetAttrAt p ↦ ⟦<SetAttrCall as Conduct>⟧.phase_of p | ReadAt p ↦ ⟦<ReadCall as Conduct>⟧.phase_of p | WriteAt p ↦ ⟦<WriteCall as Conduct>⟧.phase_of p | MakeAt p ↦ ⟦<MakeCall as Conduct>⟧.phase_of p ] };
 
-    ghost stage = { λ call. elim call [ StatOf own ↦ option_map StatStage (⟦<StatCall as Conduct>⟧.stage own) | LookupOf own ↦ option_map LookupAt (⟦<LookupCall as Conduct>⟧.stage own) | Never ↦ None ] };
+    ghost stage = { λ call. elim call [ StatOf own ↦ option_map StatAt (⟦<StatCall as Conduct>⟧.stage own) | LookupOf own ↦ option_map LookupAt (⟦<LookupCall as Conduct>⟧.stage own) | GetAttrOf own ↦ option_map GetAttrAt (⟦<GetAttrCall as Conduct>⟧.stage own) | SetAttrOf own ↦ option_map SetAttrAt (⟦<SetAttrCall as Conduct>⟧.stage own) | ReadOf own ↦ option_map ReadAt (⟦<ReadCall as Conduct>⟧.stage own) | WriteOf own ↦ option_map WriteAt (⟦<WriteCall as Conduct>⟧.stage own) | MakeOf own ↦ option_map MakeAt (⟦<MakeCall as Conduct>⟧.stage own) ] };
 
-    ghost stands = { λ x given call es. elim call [ StatOf own ↦ ⟦<StatCall as Conduct>⟧.stands x given own es | LookupOf own ↦ ⟦<LookupCall as Conduct>⟧.stands x given own es | Never ↦ ⊥ ] };
+    ghost stands = { λ x given call es. elim call [ StatOf own ↦ ⟦<StatCall as Conduct>⟧.stands x given own es | LookupOf own ↦ ⟦<LookupCall as Conduct>⟧.stands x given own es | GetAttrOf own ↦ ⟦<GetAttrCall as Conduct>⟧.stands x given own es | SetAttrOf own ↦ ⟦<SetAttrCall as Conduct>⟧.stands x given own es | ReadOf own ↦ ⟦<ReadCall as Conduct>⟧.stands x given own es | WriteOf own ↦ ⟦<WriteCall as Conduct>⟧.stands x given own es | MakeOf own ↦ ⟦<MakeCall as Conduct>⟧.stands x given own es ] };
 }
 
 impl AnyCall {
@@ -80,25 +104,58 @@ impl AnyCall {
                 let call = begin_lookup(alloc, ctx, *parent, name, next, sends)?;
                 Ok(AnyCall::Lookup(call))
             }
+            Op::GetAttr { gfid } => {
+                let call = begin_getattr(alloc, ctx, *gfid, next, sends)?;
+                Ok(AnyCall::GetAttr(call))
+            }
+            Op::SetAttr { gfid, attr } => {
+                let call = begin_setattr(alloc, ctx, *gfid, *attr, next, sends)?;
+                Ok(AnyCall::SetAttr(call))
+            }
+            Op::Read {
+                gfid,
+                off,
+                len,
+                via,
+            } => {
+                let call = begin_read(alloc, ctx, *gfid, *off, *len, *via, next, sends)?;
+                Ok(AnyCall::Read(call))
+            }
+            Op::Write { gfid, off, bytes } => {
+                let call = begin_write(alloc, ctx, *gfid, *off, bytes.copy()?, next, sends)?;
+                Ok(AnyCall::Write(call))
+            }
+            Op::Create { parent, name } => {
+                let call = begin_make(alloc, ctx, *parent, name, Kind::File, next, sends)?;
+                Ok(AnyCall::Make(call))
+            }
+            Op::Mkdir { parent, name } => {
+                let call = begin_make(alloc, ctx, *parent, name, Kind::Dir, next, sends)?;
+                Ok(AnyCall::Make(call))
+            }
             _ => Err(AllocError),
         }
     }
 }
 
-impl<T> Call<T> for AnyCall {
+impl<T: RowTimes> Call<T> for AnyCall {
     ghost use Rattle.std.specs.Prelude.{refl};
     ghost use Rattle.std.proofs.Common.{inl, inr};
     ghost use Rattle.ec_calls.specs.Any.{table_as};
     ghost use Rattle.ec_conduct.specs.Conduct.{Keeps};
     ghost use Rattle.ec_conduct.specs.Table.{IsByTable};
-    ghost use Rattle.ec_calls.specs.declared.any.AnyCall.TheVariants.{Lookup as LookupOf, Never, Stat as StatOf};
-    ghost use Rattle.ec_calls.specs.declared.any.AnyStage.TheVariants.{Lookup as LookupAt, Stat as StatStage};
+    ghost use Rattle.ec_calls.specs.declared.any.AnyCall.TheVariants.{GetAttr as GetAttrOf, Lookup as LookupOf, Make as MakeOf, Read as ReadOf, SetAttr as SetAttrOf, Stat as StatOf, Write as WriteOf};
+    ghost use Rattle.ec_calls.specs.declared.any.AnyStage.TheVariants.{GetAttr as GetAttrAt, Lookup as LookupAt, Make as MakeAt, Read as ReadAt, SetAttr as SetAttrAt, Stat as StatAt, Write as WriteAt};
 
     fn phase(&self) -> Phase {
         match self {
             AnyCall::Stat(call) => <StatCall as Call<T>>::phase(call),
             AnyCall::Lookup(call) => <LookupCall as Call<T>>::phase(call),
-            AnyCall::Never => Phase::Lock,
+            AnyCall::GetAttr(call) => <GetAttrCall as Call<T>>::phase(call),
+            AnyCall::SetAttr(call) => <SetAttrCall as Call<T>>::phase(call),
+            AnyCall::Read(call) => <ReadCall as Call<T>>::phase(call),
+            AnyCall::Write(call) => <WriteCall as Call<T>>::phase(call),
+            AnyCall::Make(call) => <MakeCall as Call<T>>::phase(call),
         }
     }
 
@@ -106,7 +163,11 @@ impl<T> Call<T> for AnyCall {
         match self {
             AnyCall::Stat(call) => <StatCall as Call<T>>::waiting(call),
             AnyCall::Lookup(call) => <LookupCall as Call<T>>::waiting(call),
-            AnyCall::Never => BrickSet::empty(),
+            AnyCall::GetAttr(call) => <GetAttrCall as Call<T>>::waiting(call),
+            AnyCall::SetAttr(call) => <SetAttrCall as Call<T>>::waiting(call),
+            AnyCall::Read(call) => <ReadCall as Call<T>>::waiting(call),
+            AnyCall::Write(call) => <WriteCall as Call<T>>::waiting(call),
+            AnyCall::Make(call) => <MakeCall as Call<T>>::waiting(call),
         }
     }
 
@@ -114,7 +175,11 @@ impl<T> Call<T> for AnyCall {
         match self {
             AnyCall::Stat(call) => <StatCall as Call<T>>::awaits(call, brick),
             AnyCall::Lookup(call) => <LookupCall as Call<T>>::awaits(call, brick),
-            AnyCall::Never => None,
+            AnyCall::GetAttr(call) => <GetAttrCall as Call<T>>::awaits(call, brick),
+            AnyCall::SetAttr(call) => <SetAttrCall as Call<T>>::awaits(call, brick),
+            AnyCall::Read(call) => <ReadCall as Call<T>>::awaits(call, brick),
+            AnyCall::Write(call) => <WriteCall as Call<T>>::awaits(call, brick),
+            AnyCall::Make(call) => <MakeCall as Call<T>>::awaits(call, brick),
         }
     }
 
@@ -122,7 +187,11 @@ impl<T> Call<T> for AnyCall {
         match self {
             AnyCall::Stat(call) => <StatCall as Call<T>>::ready(call),
             AnyCall::Lookup(call) => <LookupCall as Call<T>>::ready(call),
-            AnyCall::Never => Ok(None),
+            AnyCall::GetAttr(call) => <GetAttrCall as Call<T>>::ready(call),
+            AnyCall::SetAttr(call) => <SetAttrCall as Call<T>>::ready(call),
+            AnyCall::Read(call) => <ReadCall as Call<T>>::ready(call),
+            AnyCall::Write(call) => <WriteCall as Call<T>>::ready(call),
+            AnyCall::Make(call) => <MakeCall as Call<T>>::ready(call),
         }
     }
 
@@ -137,7 +206,11 @@ impl<T> Call<T> for AnyCall {
         match self {
             AnyCall::Stat(call) => call.hear(rows, next, brick, reply, sends),
             AnyCall::Lookup(call) => call.hear(rows, next, brick, reply, sends),
-            AnyCall::Never => Err(AllocError),
+            AnyCall::GetAttr(call) => call.hear(rows, next, brick, reply, sends),
+            AnyCall::SetAttr(call) => call.hear(rows, next, brick, reply, sends),
+            AnyCall::Read(call) => call.hear(rows, next, brick, reply, sends),
+            AnyCall::Write(call) => call.hear(rows, next, brick, reply, sends),
+            AnyCall::Make(call) => call.hear(rows, next, brick, reply, sends),
         }
     }
 
@@ -151,15 +224,23 @@ impl<T> Call<T> for AnyCall {
         match self {
             AnyCall::Stat(call) => call.give_up(rows, next, brick, sends),
             AnyCall::Lookup(call) => call.give_up(rows, next, brick, sends),
-            AnyCall::Never => Err(AllocError),
+            AnyCall::GetAttr(call) => call.give_up(rows, next, brick, sends),
+            AnyCall::SetAttr(call) => call.give_up(rows, next, brick, sends),
+            AnyCall::Read(call) => call.give_up(rows, next, brick, sends),
+            AnyCall::Write(call) => call.give_up(rows, next, brick, sends),
+            AnyCall::Make(call) => call.give_up(rows, next, brick, sends),
         }
     }
 
-    ghost keeps = { λ x given call es. elim call as (λ call. ⟦<AnyCall as Conduct>⟧.stands x given call es → Keeps given es) [ StatOf own ↦ λ s. s.keeps | LookupOf own ↦ λ s. s.keeps | Never ↦ λ s. absurd s ] };
+    ghost keeps = { λ x given call es. elim call as (λ call. ⟦<AnyCall as Conduct>⟧.stands x given call es → Keeps given es) [ StatOf own ↦ λ s. s.keeps | LookupOf own ↦ λ s. s.keeps | GetAttrOf own ↦ λ s. s.keeps | SetAttrOf own ↦ λ s. s.keeps | ReadOf own ↦ λ s. s.keeps | WriteOf own ↦ λ s. s.keeps | MakeOf own ↦ λ s. s.keeps ] };
 
     ghost by_table = { λ x given call es. elim call as (λ call. ⟦<AnyCall as Conduct>⟧.stands x given call es → IsByTable (⟦<AnyCall as Conduct>⟧.begins x) (⟦<AnyCall as Conduct>⟧.goes x) given es (⟦<AnyCall as Conduct>⟧.stage call)) [
-      | StatOf own ↦ λ s. table_as StatStage (⟦<StatCall as Conduct>⟧.begins x) (⟦<StatCall as Conduct>⟧.goes x) (⟦<AnyCall as Conduct>⟧.begins x) (⟦<AnyCall as Conduct>⟧.goes x) (λ given step b. inl (step, b, refl)) (λ p c step w. (step, w, refl)) given es own.stage s.by_table
-      | LookupOf own ↦ λ s. table_as LookupAt (⟦<LookupCall as Conduct>⟧.begins x) (⟦<LookupCall as Conduct>⟧.goes x) (⟦<AnyCall as Conduct>⟧.begins x) (⟦<AnyCall as Conduct>⟧.goes x) (λ given step b. inr (step, b, refl)) (λ p c step w. (step, w, refl)) given es own.stage s.by_table
-      | Never ↦ λ s. absurd s
+      | StatOf own ↦ λ s. table_as StatAt (⟦<StatCall as Conduct>⟧.begins x) (⟦<StatCall as Conduct>⟧.goes x) (⟦<AnyCall as Conduct>⟧.begins x) (⟦<AnyCall as Conduct>⟧.goes x) (λ given step b. inl (step, b, refl)) (λ p c step w. (step, w, refl)) given es own.stage s.by_table
+      | LookupOf own ↦ λ s. table_as LookupAt (⟦<LookupCall as Conduct>⟧.begins x) (⟦<LookupCall as Conduct>⟧.goes x) (⟦<AnyCall as Conduct>⟧.begins x) (⟦<AnyCall as Conduct>⟧.goes x) (λ given step b. inr (inl (step, b, refl))) (λ p c step w. (step, w, refl)) given es own.stage s.by_table
+      | GetAttrOf own ↦ λ s. table_as GetAttrAt (⟦<GetAttrCall as Conduct>⟧.begins x) (⟦<GetAttrCall as Conduct>⟧.goes x) (⟦<AnyCall as Conduct>⟧.begins x) (⟦<AnyCall as Conduct>⟧.goes x) (λ given step b. inr (inr (inl (step, b, refl)))) (λ p c step w. (step, w, refl)) given es own.stage s.by_table
+      | SetAttrOf own ↦ λ s. table_as SetAttrAt (⟦<SetAttrCall as Conduct>⟧.begins x) (⟦<SetAttrCall as Conduct>⟧.goes x) (⟦<AnyCall as Conduct>⟧.begins x) (⟦<AnyCall as Conduct>⟧.goes x) (λ given step b. inr (inr (inr (inl (step, b, refl))))) (λ p c step w. (step, w, refl)) given es own.stage s.by_table
+      | ReadOf own ↦ λ s. table_as ReadAt (⟦<ReadCall as Conduct>⟧.begins x) (⟦<ReadCall as Conduct>⟧.goes x) (⟦<AnyCall as Conduct>⟧.begins x) (⟦<AnyCall as Conduct>⟧.goes x) (λ given step b. inr (inr (inr (inr (inl (step, b, refl)))))) (λ p c step w. (step, w, refl)) given es own.stage s.by_table
+      | WriteOf own ↦ λ s. table_as WriteAt (⟦<WriteCall as Conduct>⟧.begins x) (⟦<WriteCall as Conduct>⟧.goes x) (⟦<AnyCall as Conduct>⟧.begins x) (⟦<AnyCall as Conduct>⟧.goes x) (λ given step b. inr (inr (inr (inr (inr (inl (step, b, refl))))))) (λ p c step w. (step, w, refl)) given es own.stage s.by_table
+      | MakeOf own ↦ λ s. table_as MakeAt (⟦<MakeCall as Conduct>⟧.begins x) (⟦<MakeCall as Conduct>⟧.goes x) (⟦<AnyCall as Conduct>⟧.begins x) (⟦<AnyCall as Conduct>⟧.goes x) (λ given step b. inr (inr (inr (inr (inr (inr (step, b, refl))))))) (λ p c step w. (step, w, refl)) given es own.stage s.by_table
     ] };
 }

@@ -5,3 +5,18 @@ returns-in-Stat g c = rw c.in-Stat.is c.hear.ensures
 
 pub returns-in-Lookup : goal.returns-in-Lookup
 returns-in-Lookup g c = rw c.in-Lookup.is c.hear-in-Lookup.ensures
+
+pub returns-in-GetAttr : goal.returns-in-GetAttr
+returns-in-GetAttr g c = rw c.in-GetAttr.is c.hear-in-GetAttr.ensures
+
+pub returns-in-SetAttr : goal.returns-in-SetAttr
+returns-in-SetAttr g c = rw c.in-SetAttr.is c.hear-in-SetAttr.ensures
+
+pub returns-in-Read : goal.returns-in-Read
+returns-in-Read g c = rw c.in-Read.is c.hear-in-Read.ensures
+
+pub returns-in-Write : goal.returns-in-Write
+returns-in-Write g c = rw c.in-Write.is c.hear-in-Write.ensures
+
+pub returns-in-Make : goal.returns-in-Make
+returns-in-Make g c = rw c.in-Make.is c.hear-in-Make.ensures

@@ -5,3 +5,18 @@ returns-in-Stat g c = rw c.in-Stat.is c.waiting.ensures
 
 pub returns-in-Lookup : goal.returns-in-Lookup
 returns-in-Lookup g c = rw c.in-Lookup.is c.waiting-in-Lookup.ensures
+
+pub returns-in-GetAttr : goal.returns-in-GetAttr
+returns-in-GetAttr g c = rw c.in-GetAttr.is c.waiting-in-GetAttr.ensures
+
+pub returns-in-SetAttr : goal.returns-in-SetAttr
+returns-in-SetAttr g c = rw c.in-SetAttr.is c.waiting-in-SetAttr.ensures
+
+pub returns-in-Read : goal.returns-in-Read
+returns-in-Read g c = rw c.in-Read.is c.waiting-in-Read.ensures
+
+pub returns-in-Write : goal.returns-in-Write
+returns-in-Write g c = rw c.in-Write.is c.waiting-in-Write.ensures
+
+pub returns-in-Make : goal.returns-in-Make
+returns-in-Make g c = rw c.in-Make.is c.waiting-in-Make.ensures

@@ -1,0 +1,7 @@
+use Rattle.ec_calls.proofs.any.AnyCallCall.ready.Goals as goal
+
+pub returns-in-Read : goal.returns-in-Read
+returns-in-Read g c = rw c.in-Read.is c.ready-in-Read.ensures
+
+pub returns-in-Write : goal.returns-in-Write
+returns-in-Write g c = rw c.in-Write.is c.ready-in-Write.ensures

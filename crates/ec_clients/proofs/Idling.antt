@@ -115,7 +115,7 @@ all_grow : (n : ℕ) (f more : ℕ → Option Message) (es : List Entry) → Are
 all_grow n f more [] from h i m e = (h i m e).1
 all_grow n f more (x ∷ es) from h i m e = all_grow n f (said_with more x) es from.1 (one_grows n f more x from.0 h) i m e
 
-below_next : (s : Cluster) → IsSound s → (i : ℕ) (m : Message) → said_in (log_of s) i ≡ Some m → i < next_of s
+pub below_next : (s : Cluster) → IsSound s → (i : ℕ) (m : Message) → said_in (log_of s) i ≡ Some m → i < next_of s
 below_next s sound i m e = test (nat_cases i (next_of s))
   where
     test : (i < next_of s) ⊎ (next_of s ≤ i) → i < next_of s

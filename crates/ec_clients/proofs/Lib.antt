@@ -7,5 +7,8 @@ pub mod Entries
 pub mod Hearings
 pub mod Idling
 pub mod Leavings
+pub mod Lateness
 pub mod Moves
+pub mod New
+pub mod Owning
 pub mod Places

@@ -57,9 +57,12 @@ abbrev pub reply_in : Body → Option Reply
 reply_in (ToBrick q) = None
 reply_in (ToClient re reply) = Some reply
 
--- Client j's call gave up brick b, sent these requests, and was answered or waits.
+-- The call that client j runs gave up brick b, sent these requests, and was answered or waits.
 pub record Leaves {C : Type 0} (stands : Ctx → Given → C → List Own → Type 0) (by_table : Ctx → Given → List Own → Type 0) (s t : Cluster) (c d : Clients C) (i j b : ℕ) : Type 0 where
+  pub running : Running C
+  pub runs : running_at c j ≡ Some running
   pub call : ℕ
+  pub number : running.number ≡ call
   pub sends : List Send
   pub answer : Option Answer
   pub goes : Goes c.options.geometry (Seen stands by_table s c None) (Seen stands by_table t d None) s t (GivenUp j b i ∷ (sent_entries call j (next_of s) sends ++ answer_entries call answer))

@@ -1,8 +1,11 @@
+pub mod Beginning
 pub mod Calls
 pub mod Come
 pub mod Frames
 pub mod Going
 pub mod Hearing
+pub mod Late
 pub mod Ledger
+pub mod Owned
 pub mod Steps
 pub mod Views

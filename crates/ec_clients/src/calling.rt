@@ -7,6 +7,7 @@ ghost use Rattle.ec_txn.specs.Steps.{answer_of};
 ghost use Rattle.ec_txn.specs.declared.ctx.Ctx.{Ctx as CtxOf};
 ghost use Rattle.ec_cluster.specs.Sound.{IsSound};
 ghost use Rattle.ec_cluster.specs.Views.{size_of};
+ghost use Rattle.ec_clients.specs.Beginning.{AreAsMany};
 ghost use Rattle.ec_clients.specs.Calls.{ctx_of, tabled};
 ghost use Rattle.ec_clients.specs.Come.{Come};
 ghost use Rattle.ec_clients.specs.Hearing.{Begins as BeganBy};
@@ -73,6 +74,7 @@ impl<C> Clients<C> {
         requires { client < length self.old.dead.items }
         ensures same { self.new ≡ record self.old { dead = self.new.dead } }
         ensures dead { (x : ℕ) → is_dead_at self.new x ≡ put (is_dead_at self.old) client true x }
+        ensures many { length self.new.dead.items ≡ length self.old.dead.items }
     {
         self.dead[usize::from(client)] = true;
     }
@@ -104,6 +106,7 @@ pub fn begin<T, C: Begins<T>>(
     requires calls { clients.old.calls < 2 ^ 32 - 1 }
     ensures ok { OnOk result (BeganBy C.stands (tabled C.begins C.goes) cluster.old cluster.new clients.old clients.new client op.now) }
     ensures options { OnOk result (clients.new.options ≡ clients.old.options) }
+    ensures many { OnOk result (AreAsMany clients.old clients.new) }
     ensures err { OnErr result (Breaks clients.old.options.geometry (Seen C.stands (tabled C.begins C.goes) cluster.old clients.old None) cluster.old cluster.new) }
 {
     let next = cluster.next();
@@ -155,6 +158,7 @@ pub fn die<T, C: Call<T>>(
     requires there { client < length clients.old.dead.items }
     ensures ok { OnOk result (Goes clients.old.options.geometry (Seen C.stands (tabled C.begins C.goes) cluster.old clients.old None) (Seen C.stands (tabled C.begins C.goes) cluster.new clients.new None) cluster.old cluster.new (Died client ∷ [])) }
     ensures same { clients.new ≡ record clients.old { dead = clients.new.dead } }
+    ensures many { length clients.new.dead.items ≡ length clients.old.dead.items }
     ensures err { OnErr result (Breaks clients.old.options.geometry (Seen C.stands (tabled C.begins C.goes) cluster.old clients.old None) cluster.old cluster.new) }
 {
     match cluster.note(Entry::Died { client }) {

@@ -29,7 +29,7 @@ pub struct Clients<C> {
 }
 
 /// Clients are numbered from 1 to this.
-const CLIENTS: u8 = 16;
+pub(crate) const CLIENTS: u8 = 16;
 
 impl<C> Clients<C> {
     /// Whether the client does nothing more.
@@ -54,5 +54,12 @@ impl<C> Clients<C> {
         ensures { result ≡ self.now.next_gfid }
     {
         self.next_gfid
+    }
+
+    /// Whether a Release of this ask was sent.
+    pub fn is_released(&self, ask: u64) -> bool
+        ensures { result ≡ is_released self.now ask }
+    {
+        self.released.contains(&ask)
     }
 }

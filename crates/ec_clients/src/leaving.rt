@@ -2,6 +2,7 @@
 ghost use Rattle.std.specs.Prelude.{◌≡◌, false, None, Some, OnErr, OnOk};
 ghost use Rattle.ec_cluster.specs.Sound.{IsSound};
 ghost use Rattle.ec_cluster.specs.Views.{size_of};
+ghost use Rattle.ec_clients.specs.Beginning.{AreAsMany};
 ghost use Rattle.ec_clients.specs.Calls.{tabled};
 ghost use Rattle.ec_clients.specs.Come.{Come};
 ghost use Rattle.ec_clients.specs.Hearing.{IsWaiting, Leaves};
@@ -33,6 +34,7 @@ pub fn leave<T, C: Call<T>>(
     requires lives { is_dead_at clients.old client ≡ false }
     ensures ok { OnOk result (Leaves C.stands (tabled C.begins C.goes) cluster.old cluster.new clients.old clients.new no client brick) }
     ensures options { OnOk result (clients.new.options ≡ clients.old.options) }
+    ensures many { OnOk result (AreAsMany clients.old clients.new) }
     ensures err { OnErr result (Breaks clients.old.options.geometry (Seen C.stands (tabled C.begins C.goes) cluster.old clients.old None) cluster.old cluster.new) }
 {
     let next = cluster.next();

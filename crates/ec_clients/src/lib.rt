@@ -6,6 +6,7 @@
 // answered by a Release.
 #![tactic(auto)]
 
+mod beginning;
 mod begins;
 mod calling;
 mod clients;
@@ -17,6 +18,7 @@ mod options;
 mod sending;
 mod slots;
 
+pub use beginning::new_clients;
 pub use begins::Begins;
 pub use calling::{begin, die};
 pub use clients::{Clients, Running};

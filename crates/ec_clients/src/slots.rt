@@ -21,6 +21,7 @@ impl<C: Drop> Clients<C> {
         requires { client < length (slots_of self.old) }
         ensures was { slice_get (slots_of self.old) client ≡ Some result }
         ensures changes { ChangesAt (slots_of self.old) (slots_of self.new) client None }
+        ensures many { length (slots_of self.new) ≡ length (slots_of self.old) }
         ensures same { self.new ≡ record self.old { running = self.new.running } }
     {
         std::mem::replace(&mut self.running[usize::from(client)], None)
@@ -30,6 +31,7 @@ impl<C: Drop> Clients<C> {
     pub(crate) fn put(&mut self, client: u8, running: Running<C>)
         requires { slice_get (slots_of self.old) client ≡ Some None }
         ensures changes { ChangesAt (slots_of self.old) (slots_of self.new) client (Some running) }
+        ensures many { length (slots_of self.new) ≡ length (slots_of self.old) }
         ensures same { self.new ≡ record self.old { running = self.new.running } }
     {
         self.running[usize::from(client)] = Some(running);

@@ -1,25 +1,20 @@
 -- Whither a message goes, and what refuses its delivery.
-use Rattle.std.proofs.Common.{◌≡◌, ℕ, Bool, true, false, cond, ◌&&◌, Option, Some, None, List, Result, Ok, Err, refl, sym, ◌∙◌, ap, subst}
+use Rattle.std.proofs.Common.{◌≡◌, ℕ, Bool, true, false, cond, ◌&&◌, Option, Some, None, refl, sym, ◌∙◌, ap, subst}
 use Rattle.ec_clients.specs.Hearing.{IsReplyAt, reply_message}
 use Rattle.ec_clients.specs.Views.{is_dead_at}
 use Rattle.ec_clients.specs.declared.clients.Clients.{Clients}
 use Rattle.ec_cluster.specs.Sound.{IsSound}
 use Rattle.ec_cluster.specs.Views.{can_execute, flight, goes_to_up, is_up_at}
 use Rattle.ec_cluster.specs.declared.cluster.Cluster.{Cluster}
-use Rattle.ec_conduct.specs.Given.{Given}
-use Rattle.ec_conduct.specs.Own.{Own}
-use Rattle.ec_store.specs.Records.{Records}
-use Rattle.ec_txn.specs.declared.ctx.Ctx.{Ctx}
 use Rattle.ec_wire.specs.declared.message.Body.{Body}
 use Rattle.ec_wire.specs.declared.message.Body.TheVariants.{ToBrick, ToClient}
 use Rattle.ec_wire.specs.declared.message.Message.{Message}
 use Rattle.ec_world.specs.Address.{address_of, body_address}
-use Rattle.ec_world.specs.Events.{Advances, Breaks, Stepped}
 use Rattle.ec_wire.specs.Lanes.{is_to_brick}
 use Rattle.ec_world.specs.Refusals.{body_refusal, message_refusal}
 use Rattle.ec_world.specs.declared.address.Address.TheVariants.{Brick, Client}
-use Rattle.ec_world.specs.declared.refused.Refused.{Refused}
-use Rattle.ec_world.specs.declared.refused.Refused.TheVariants.{NoMessage, NoneBetween, Busy, Idle, Dead, Down, Up, NoBrick, NotAsked, NotTearable, TooMany, NotKeeping, Unbuilt, NoMemory}
+use Rattle.ec_world.specs.declared.refused.Refused.TheVariants.{Dead, Down}
+use Rattle.ec_world.specs.Settling.{GoesNowhere, goes_nowhere}
 
 -- a request goes to this brick
 pub record GoesTo {C : Type 0} (s : Cluster) (c : Clients C) (i b : ℕ) : Type 0 where
@@ -69,29 +64,25 @@ to_client s c i j a b re sound e = by (flight s i) refl e
     by None f h = absurd (cc)
     by (Some m) f h = by_body m m.body (f ∙ (λ k. Some (record m { no = (sound.flies i m f).own k }))) (cc)
 
-module _ {C : Type 0} (stands : Ctx → Given → C → List Own → Type 0) (by_table : Ctx → Given → List Own → Type 0) (s t : Cluster) (c d : Clients C) (before after : List Records) (o : Option Refused) (free : o ≡ None) where
-  pub stepped_as : (Told : Type 0) (result : Result (Unit {0}) Refused) → Stepped stands by_table Told s t c d before after None result → Stepped stands by_table Told s t c d before after o result
-  stepped_as Told result h = subst (λ (x : Option Refused). Stepped stands by_table Told s t c d before after x result) (sym free) h
+-- a message that isn't delivered goes nowhere
+pub nowhere_brick : {C : Type 0} (s : Cluster) (c : Clients C) (i b : ℕ) → address_of (flight s i) ≡ Some (Brick b) → is_up_at s b ≡ false → GoesNowhere s c (flight s i)
+nowhere_brick {C} s c i b e down = by (flight s i) e
+  where
+    by_body : (m : Message) (y : Body) → body_address m y ≡ Brick b → goes_nowhere s c m y
+    by_body m (ToBrick q) h = let x : m.brick ≡ b = cc in (λ k. is_up_at s (x k)) ∙ down
+    by_body m (ToClient re reply) h = absurd (cc)
 
-  weaker : (Told : Type 0) → Advances stands by_table (Unit {0}) s t c d before after → Advances stands by_table Told s t c d before after
-  weaker Told h = record { entries = h.entries; log = h.log; size = h.size; options = h.options; sound = h.sound; leads = h.leads; runs = λ told. h.runs tt }
+    by : (o : Option Message) → address_of o ≡ Some (Brick b) → GoesNowhere s c o
+    by None h = absurd (cc)
+    by (Some m) h = by_body m m.body (cc)
 
-  breaks : (Told : Type 0) → Breaks stands by_table (Unit {0}) s t c before after → Breaks stands by_table Told s t c before after
-  breaks Told h = record { entries = h.entries; log = h.log; runs = λ told. h.runs tt }
+pub nowhere_client : {C : Type 0} (s : Cluster) (c : Clients C) (i j a b re : ℕ) → address_of (flight s i) ≡ Some (Client j a b re) → is_dead_at c j ≡ true → GoesNowhere s c (flight s i)
+nowhere_client {C} s c i j a b re e dead = by (flight s i) e
+  where
+    by_body : (m : Message) (y : Body) → body_address m y ≡ Client j a b re → goes_nowhere s c m y
+    by_body m (ToBrick q) h = absurd (cc)
+    by_body m (ToClient x reply) h = let y : m.client ≡ j = cc in (λ k. is_dead_at c (y k)) ∙ dead
 
-  pub stepped_told : (Told : Type 0) (result : Result (Unit {0}) Refused) → Stepped stands by_table (Unit {0}) s t c d before after None result → Stepped stands by_table Told s t c d before after o result
-  stepped_told Told (Ok x) h = (free, weaker Told h.1)
-  stepped_told Told (Err NoMemory) h = breaks Told h
-  stepped_told Told (Err (NoMessage n)) h = absurd (let e = h.0 in cc)
-  stepped_told Told (Err (NoneBetween x y)) h = absurd (let e = h.0 in cc)
-  stepped_told Told (Err (Busy n)) h = absurd (let e = h.0 in cc)
-  stepped_told Told (Err (Idle n)) h = absurd (let e = h.0 in cc)
-  stepped_told Told (Err (Dead n)) h = absurd (let e = h.0 in cc)
-  stepped_told Told (Err (Down n)) h = absurd (let e = h.0 in cc)
-  stepped_told Told (Err (Up n)) h = absurd (let e = h.0 in cc)
-  stepped_told Told (Err (NoBrick n)) h = absurd (let e = h.0 in cc)
-  stepped_told Told (Err (NotAsked x y)) h = absurd (let e = h.0 in cc)
-  stepped_told Told (Err (NotTearable n)) h = absurd (let e = h.0 in cc)
-  stepped_told Told (Err (TooMany n)) h = absurd (let e = h.0 in cc)
-  stepped_told Told (Err (NotKeeping n)) h = absurd (let e = h.0 in cc)
-  stepped_told Told (Err Unbuilt) h = absurd (let e = h.0 in cc)
+    by : (o : Option Message) → address_of o ≡ Some (Client j a b re) → GoesNowhere s c o
+    by None h = absurd (cc)
+    by (Some m) h = by_body m m.body (cc)

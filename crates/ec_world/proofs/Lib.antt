@@ -1,2 +1,12 @@
 pub mod Advancing
+pub mod Becoming
+pub mod Calling
+pub mod Chaining
+pub mod Cuts
 pub mod Delivering
+pub mod Following
+pub mod Naming
+pub mod Outcomes
+pub mod Permitting
+pub mod Settled
+pub mod Waiting

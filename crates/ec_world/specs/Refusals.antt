@@ -1,19 +1,27 @@
 -- Why an event is refused: the first of its causes that applies.
-use Rattle.std.specs.Prelude.{◌≡◌, ℕ, ◌<◌, Bool, true, false, cond, nat_lt, is_some, Option, Some, None}
+use Rattle.std.specs.Prelude.{◌≡◌, ℕ, ◌<◌, Bool, true, false, cond, nat_lt, is_some, List, Option, Some, None}
 use Rattle.ec_clients.specs.Views.{is_dead_at, running_at}
 use Rattle.ec_clients.specs.declared.clients.Clients.{Clients}
 use Rattle.ec_clients.specs.declared.clients.Running.{Running}
+use Rattle.ec_cluster.specs.Tears.{bytes_at}
 use Rattle.ec_cluster.specs.Views.{flight, is_up_at, size_of}
 use Rattle.ec_cluster.specs.declared.cluster.Cluster.{Cluster}
+use Rattle.ec_conduct.specs.Given.{Given}
+use Rattle.ec_conduct.specs.Opened.{account}
+use Rattle.ec_conduct.specs.Own.{Own}
+use Rattle.ec_txn.specs.Steps.{number_of}
+use Rattle.ec_txn.specs.declared.ctx.Ctx.{Ctx}
 use Rattle.ec_wire.specs.Lanes.{is_going}
 use Rattle.ec_wire.specs.Places.{IsLowest}
+use Rattle.ec_wire.specs.declared.event.Event.{Event}
+use Rattle.ec_wire.specs.declared.event.Event.TheVariants.{Call, Deliver, Lose, GiveUp, Stop, Return, Cut, Die, Tear, Yield, Settle, Until, Replace}
 use Rattle.ec_wire.specs.declared.event.Which.{Which}
 use Rattle.ec_wire.specs.declared.event.Which.TheVariants.{Number, ToBrick, ToClient}
 use Rattle.ec_wire.specs.declared.message.Body.{Body}
 use Rattle.ec_wire.specs.declared.message.Body.TheVariants.{ToBrick as AskBody, ToClient as ReplyBody}
 use Rattle.ec_wire.specs.declared.message.Message.{Message}
 use Rattle.ec_world.specs.declared.refused.Refused.{Refused}
-use Rattle.ec_world.specs.declared.refused.Refused.TheVariants.{NoMessage, NoneBetween, Busy, Dead, Down, Up, NoBrick, NotAsked, NotKeeping}
+use Rattle.ec_world.specs.declared.refused.Refused.TheVariants.{NoMessage, NoneBetween, Busy, Idle, Dead, Down, Up, NoBrick, NotAsked, NotTearable, TooMany, NotKeeping, Unbuilt}
 
 -- the number of the message in flight that a script names, None where there is none
 abbrev pub IsFound : Cluster → Which → Option ℕ → Type 0
@@ -62,3 +70,53 @@ busy (Some r) = Some (Busy r.number)
 
 abbrev pub call_refusal : {C : Type 0} → Clients C → ℕ → Option Refused
 call_refusal c j = cond (is_dead_at c j) (Some (Dead j)) (busy (running_at c j))
+
+-- a client that is dead, or runs no call
+abbrev pub idle : {C : Type 0} → Option (Running C) → ℕ → Option Refused
+idle None j = Some (Idle j)
+idle (Some r) j = None
+
+abbrev pub until_refusal : {C : Type 0} → Clients C → ℕ → Option Refused
+until_refusal c j = cond (is_dead_at c j) (Some (Dead j)) (idle (running_at c j) j)
+
+-- the number of the request to brick b that a client's call waits for, None where it runs none or waits for none
+abbrev pub IsAwaitedBy : {C : Type 0} → (Ctx → Given → C → List Own → Type 0) → Option (Running C) → ℕ → Option ℕ → Type 0
+IsAwaitedBy stands None b a = a ≡ None
+IsAwaitedBy stands (Some r) b a = (x : Ctx) (given : Given) (es : List Own) → stands x given r.call es → a ≡ number_of ((account given es).waits b)
+
+abbrev pub asked : Option ℕ → ℕ → ℕ → Option Refused
+asked None j b = Some (NotAsked j b)
+asked (Some n) j b = None
+
+abbrev pub give_up_refusal : {C : Type 0} → Cluster → Clients C → ℕ → ℕ → Option ℕ → Option Refused
+give_up_refusal s c j b a = cond (nat_lt b (size_of s)) (cond (is_dead_at c j) (Some (Dead j)) (asked a j b)) (Some (NoBrick b))
+
+-- a write goes to a brick that is up, and has as many bytes
+abbrev pub brick_of : Option Message → ℕ
+brick_of None = 0
+brick_of (Some m) = m.brick
+
+abbrev pub bytes_refusal : ℕ → Option ℕ → Bool → ℕ → ℕ → Option Refused
+bytes_refusal n None up b bytes = Some (NotTearable n)
+bytes_refusal n (Some most) up b bytes = cond up (cond (nat_lt most bytes) (Some (TooMany bytes)) None) (Some (Down b))
+
+abbrev pub tear_refusal : Cluster → Which → Option ℕ → ℕ → Option Refused
+tear_refusal s which None bytes = Some (missing which)
+tear_refusal s which (Some n) bytes = bytes_refusal n (bytes_at s n) (is_up_at s (brick_of (flight s n))) (brick_of (flight s n)) bytes
+
+-- What refuses an event, None where nothing does. A replacement isn't built.
+abbrev pub IsRefusal : {C : Type 0} → (Ctx → Given → C → List Own → Type 0) → Cluster → Clients C → Event → Option Refused → Type 0
+IsRefusal stands s c (Call j op) o = o ≡ call_refusal c j
+IsRefusal stands s c (Deliver which) o = (named : Option ℕ) × IsFound s which named × (o ≡ deliver_refusal s c which named)
+IsRefusal stands s c (Lose which) o = (named : Option ℕ) × IsFound s which named × (o ≡ lose_refusal which named)
+IsRefusal stands s c (GiveUp j b) o = (a : Option ℕ) × IsAwaitedBy stands (running_at c j) b a × (o ≡ give_up_refusal s c j b a)
+IsRefusal stands s c (Stop b) o = o ≡ stop_refusal s b
+IsRefusal stands s c (Return b) o = o ≡ return_refusal s b
+IsRefusal stands s c (Cut j (Some b)) o = o ≡ stop_refusal s b
+IsRefusal stands s c (Cut j None) o = o ≡ None
+IsRefusal stands s c (Die j) o = o ≡ die_refusal c j
+IsRefusal stands s c (Tear which bytes) o = (named : Option ℕ) × IsFound s which named × (o ≡ tear_refusal s which named bytes)
+IsRefusal stands s c (Yield j) o = o ≡ yield_refusal c j
+IsRefusal stands s c Settle o = o ≡ None
+IsRefusal stands s c (Until j phase) o = o ≡ until_refusal c j
+IsRefusal stands s c (Replace b) o = o ≡ Some Unbuilt

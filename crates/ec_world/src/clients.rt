@@ -2,14 +2,16 @@
 ghost use Rattle.std.specs.Prelude.{◌≡◌, ◌<◌, ◌-◌, ◌^◌, ℕ, List, Option, Some, None, false, length};
 ghost use Rattle.ec_clients.specs.Come.{Come};
 ghost use Rattle.ec_clients.specs.Hearing.{IsReplyAt, IsWaiting};
-ghost use Rattle.ec_clients.specs.Steps.{Seen};
-ghost use Rattle.ec_clients.specs.Views.{is_dead_at, slots_of};
+ghost use Rattle.ec_clients.specs.Owned.{Sees};
+ghost use Rattle.ec_clients.specs.Views.{is_dead_at, running_at, slots_of};
 ghost use Rattle.ec_cluster.specs.Views.{size_of};
 ghost use Rattle.ec_clients.specs.Calls.{tabled};
 ghost use Rattle.ec_cluster.specs.Sound.{IsSound};
 ghost use Rattle.ec_store.specs.Records.{Records};
-ghost use Rattle.ec_world.specs.Events.{Stepped};
-ghost use Rattle.ec_world.specs.Refusals.{call_refusal, die_refusal, yield_refusal};
+ghost use Rattle.ec_wire.specs.declared.event.Event.TheVariants.{Call as CallOf, Die, GiveUp};
+ghost use Rattle.ec_world.specs.Events.{OfEvent, Stepped};
+ghost use Rattle.ec_world.specs.Steps.{IsDelivery, IsGivingUp, OneStep};
+ghost use Rattle.ec_world.specs.Refusals.{IsAwaitedBy, call_refusal, die_refusal, give_up_refusal, yield_refusal};
 
 use crate::refused::Refused;
 use ec_clients::{Begins, Clients, hear_awaited, hear_idle, is_awaited, leave};
@@ -26,7 +28,7 @@ pub fn die<T, C: Call<T>>(
 ) -> Result<(), Refused>
     requires sound { IsSound cluster.old }
     requires there { client < length clients.old.dead.items }
-    ensures { (records : List Records) → Stepped C.stands (tabled C.begins C.goes) (Unit {0}) cluster.old cluster.new clients.old clients.new records records (die_refusal clients.old client) result }
+    ensures { (records : List Records) → Stepped C.stands (tabled C.begins C.goes) (Unit {0}) (OfEvent (size_of cluster.old) (Die client)) cluster.old cluster.new clients.old clients.new records records (die_refusal clients.old client) result }
 {
     if clients.is_dead(client) {
         return Err(Refused::Dead(client));
@@ -60,7 +62,7 @@ pub fn call<T, C: Begins<T>>(
     requires size { size_of cluster.old ≡ clients.old.options.geometry.n }
     requires there { client < length (slots_of clients.old) }
     requires calls { clients.old.calls < 2 ^ 32 - 1 }
-    ensures { (records : List Records) → Stepped C.stands (tabled C.begins C.goes) (Unit {0}) cluster.old cluster.new clients.old clients.new records records (call_refusal clients.old client) result }
+    ensures { (records : List Records) → Stepped C.stands (tabled C.begins C.goes) (Unit {0}) (OfEvent (size_of cluster.old) (CallOf client op.now)) cluster.old cluster.new clients.old clients.new records records (call_refusal clients.old client) result }
 {
     if clients.is_dead(client) {
         return Err(Refused::Dead(client));
@@ -89,10 +91,10 @@ pub fn hear<T, C: Call<T>>(
 ) -> Result<(), Refused>
     requires sound { IsSound cluster.old }
     requires size { size_of cluster.old ≡ clients.old.options.geometry.n }
-    requires seen { (p : Come) × Seen C.stands (tabled C.begins C.goes) cluster.old clients.old None p }
+    requires sees { (p : Come) × Sees C.stands (tabled C.begins C.goes) cluster.old clients.old p }
     requires there { IsReplyAt cluster.old no call client brick re }
     requires lives { is_dead_at clients.old client ≡ false }
-    ensures { (records : List Records) → Stepped C.stands (tabled C.begins C.goes) (Unit {0}) cluster.old cluster.new clients.old clients.new records records None result }
+    ensures { (records : List Records) → Stepped C.stands (tabled C.begins C.goes) (Unit {0}) (OneStep (IsDelivery no)) cluster.old cluster.new clients.old clients.new records records None result }
 {
     if is_awaited::<T, C>(clients, client, call, brick, re) {
         match hear_awaited::<T, C>(clients, cluster, alloc, rows, no, client, call, brick, re) {
@@ -108,7 +110,7 @@ pub fn hear<T, C: Call<T>>(
 }
 
 /// A client gives up a brick, of which its call waits for the reply to request `no`.
-pub fn give_up<T, C: Call<T>>(
+pub fn leave_one<T, C: Call<T>>(
     clients: &mut Clients<C>,
     cluster: &mut Cluster,
     alloc: Global,
@@ -119,13 +121,51 @@ pub fn give_up<T, C: Call<T>>(
 ) -> Result<(), Refused>
     requires sound { IsSound cluster.old }
     requires size { size_of cluster.old ≡ clients.old.options.geometry.n }
-    requires seen { (p : Come) × Seen C.stands (tabled C.begins C.goes) cluster.old clients.old None p }
+    requires sees { (p : Come) × Sees C.stands (tabled C.begins C.goes) cluster.old clients.old p }
     requires waiting { IsWaiting C.stands clients.old client brick no }
     requires lives { is_dead_at clients.old client ≡ false }
-    ensures { (records : List Records) → Stepped C.stands (tabled C.begins C.goes) (Unit {0}) cluster.old cluster.new clients.old clients.new records records None result }
+    ensures { (records : List Records) → Stepped C.stands (tabled C.begins C.goes) (Unit {0}) (OneStep (IsGivingUp client brick no)) cluster.old cluster.new clients.old clients.new records records None result }
 {
     match leave::<T, C>(clients, cluster, alloc, rows, client, brick, no) {
         Ok(()) => Ok(()),
         Err(_) => Err(Refused::NoMemory),
+    }
+}
+
+/// The number of the request to a brick that the client's call waits for.
+pub fn awaited<T, C: Call<T>>(clients: &Clients<C>, client: u8, brick: u8) -> Option<u64>
+    ensures { IsAwaitedBy C.stands (running_at clients.now client) brick result }
+{
+    match clients.running(client) {
+        Some(running) => running.call.awaits(brick),
+        None => None,
+    }
+}
+
+/// A client gives up a brick. `number` is that of the request to it that its call waits for.
+pub fn give_up<T, C: Call<T>>(
+    clients: &mut Clients<C>,
+    cluster: &mut Cluster,
+    alloc: Global,
+    rows: &T,
+    client: u8,
+    brick: u8,
+    number: Option<u64>,
+) -> Result<(), Refused>
+    requires sound { IsSound cluster.old }
+    requires size { size_of cluster.old ≡ clients.old.options.geometry.n }
+    requires sees { (p : Come) × Sees C.stands (tabled C.begins C.goes) cluster.old clients.old p }
+    requires awaited { IsAwaitedBy C.stands (running_at clients.old client) brick number }
+    ensures { (records : List Records) → Stepped C.stands (tabled C.begins C.goes) (Unit {0}) (OfEvent (size_of cluster.old) (GiveUp client brick)) cluster.old cluster.new clients.old clients.new records records (give_up_refusal cluster.old clients.old client brick number) result }
+{
+    if usize::from(brick) >= cluster.bricks().len() {
+        return Err(Refused::NoBrick(brick));
+    }
+    if clients.is_dead(client) {
+        return Err(Refused::Dead(client));
+    }
+    match number {
+        Some(no) => leave_one::<T, C>(clients, cluster, alloc, rows, client, brick, no),
+        None => Err(Refused::NotAsked { client, brick }),
     }
 }

@@ -1,17 +1,20 @@
 // Messages that are delivered.
-ghost use Rattle.std.specs.Prelude.{◌≡◌, List, true, length, map};
+ghost use Rattle.std.specs.Prelude.{◌≡◌, List, None, is_some, true, length, map};
 ghost use Rattle.std.specs.List.{list_all};
 ghost use Rattle.ec_clients.specs.Calls.{tabled};
 ghost use Rattle.ec_clients.specs.Come.{Come};
-ghost use Rattle.ec_clients.specs.Steps.{Seen};
+ghost use Rattle.ec_clients.specs.Owned.{Sees};
 ghost use Rattle.ec_cluster.specs.Sound.{IsSound};
 ghost use Rattle.ec_cluster.specs.Views.{flight, size_of};
 ghost use Rattle.ec_world.specs.Address.{address_of};
-ghost use Rattle.ec_world.specs.Events.{Stepped};
-ghost use Rattle.ec_world.specs.Refusals.{IsFound, deliver_refusal};
+ghost use Rattle.ec_wire.specs.declared.event.Event.TheVariants.{Deliver};
+ghost use Rattle.ec_world.specs.Events.{OfEvent, Stepped};
+ghost use Rattle.ec_world.specs.Steps.{IsDelivery, OneStep};
+ghost use Rattle.ec_world.specs.Refusals.{IsFound, deliver_refusal, message_refusal};
+ghost use Rattle.ec_world.specs.Settling.{Moves};
 
 use crate::address::Address;
-use crate::bricks::execute;
+use crate::bricks::{execute, lose_one};
 use crate::clients::hear;
 use crate::named::missing;
 use crate::refused::Refused;
@@ -40,7 +43,8 @@ fn address(cluster: &Cluster, no: u64) -> Option<Address>
     }
 }
 
-/// A brick that is up executes a request, or a client that lives hears a reply. `named` is the number that `which` names.
+/// A message in flight is delivered: a brick that is up executes a request, or a client that lives hears a reply. `named`
+/// is the number that `which` names.
 pub fn deliver<S: BrickStore, T, C: Call<T>>(
     clients: &mut Clients<C>,
     cluster: &mut Cluster,
@@ -52,16 +56,35 @@ pub fn deliver<S: BrickStore, T, C: Call<T>>(
 ) -> Result<(), Refused>
     requires sound { IsSound cluster.old }
     requires size { size_of cluster.old ≡ clients.old.options.geometry.n }
-    requires seen { (p : Come) × Seen C.stands (tabled C.begins C.goes) cluster.old clients.old None p }
+    requires sees { (p : Come) × Sees C.stands (tabled C.begins C.goes) cluster.old clients.old p }
     requires stores { length stores.old ≡ size_of cluster.old }
     requires named { IsFound cluster.old which named }
     ensures tells { list_all S.told stores.new ≡ list_all S.told stores.old }
-    ensures stepped { Stepped C.stands (tabled C.begins C.goes) (list_all S.told stores.old ≡ true) cluster.old cluster.new clients.old clients.new (map S.records stores.old) (map S.records stores.new) (deliver_refusal cluster.old clients.old which named) result }
+    ensures stepped { Stepped C.stands (tabled C.begins C.goes) (list_all S.told stores.old ≡ true) (OfEvent (size_of cluster.old) (Deliver which)) cluster.old cluster.new clients.old clients.new (map S.records stores.old) (map S.records stores.new) (deliver_refusal cluster.old clients.old which named) result }
 {
-    let no = match named {
-        Some(no) => no,
-        None => return Err(missing(which)),
-    };
+    match named {
+        Some(no) => deliver_one::<S, T, C>(clients, cluster, stores, alloc, rows, no),
+        None => Err(missing(which)),
+    }
+}
+
+/// The message in flight of this number is delivered.
+fn deliver_one<S: BrickStore, T, C: Call<T>>(
+    clients: &mut Clients<C>,
+    cluster: &mut Cluster,
+    stores: &mut [S],
+    alloc: Global,
+    rows: &T,
+    no: u64,
+) -> Result<(), Refused>
+    requires sound { IsSound cluster.old }
+    requires size { size_of cluster.old ≡ clients.old.options.geometry.n }
+    requires sees { (p : Come) × Sees C.stands (tabled C.begins C.goes) cluster.old clients.old p }
+    requires stores { length stores.old ≡ size_of cluster.old }
+    requires flies { is_some (flight cluster.old no) ≡ true }
+    ensures tells { list_all S.told stores.new ≡ list_all S.told stores.old }
+    ensures stepped { Stepped C.stands (tabled C.begins C.goes) (list_all S.told stores.old ≡ true) (OneStep (IsDelivery no)) cluster.old cluster.new clients.old clients.new (map S.records stores.old) (map S.records stores.new) (message_refusal cluster.old clients.old (flight cluster.old no)) result }
+{
     match address(cluster, no) {
         Some(Address::Brick(brick)) => {
             if !cluster.is_up(brick) {
@@ -81,6 +104,50 @@ pub fn deliver<S: BrickStore, T, C: Call<T>>(
                 return Err(Refused::Dead(client));
             }
             hear::<T, C>(clients, cluster, alloc, rows, no, client, call, brick, re)
+        }
+        None => unreachable!(),
+    }
+}
+
+/// The message in flight of this number is delivered, or lost where it goes to a brick that is stopped or to a client that
+/// is dead.
+pub(crate) fn move_on<S: BrickStore, T, C: Call<T>>(
+    clients: &mut Clients<C>,
+    cluster: &mut Cluster,
+    stores: &mut [S],
+    alloc: Global,
+    rows: &T,
+    no: u64,
+) -> Result<(), Refused>
+    requires sound { IsSound cluster.old }
+    requires size { size_of cluster.old ≡ clients.old.options.geometry.n }
+    requires sees { (p : Come) × Sees C.stands (tabled C.begins C.goes) cluster.old clients.old p }
+    requires stores { length stores.old ≡ size_of cluster.old }
+    requires flies { is_some (flight cluster.old no) ≡ true }
+    ensures tells { list_all S.told stores.new ≡ list_all S.told stores.old }
+    ensures stepped { Stepped C.stands (tabled C.begins C.goes) (list_all S.told stores.old ≡ true) (OneStep (Moves cluster.old clients.old no)) cluster.old cluster.new clients.old clients.new (map S.records stores.old) (map S.records stores.new) None result }
+{
+    match address(cluster, no) {
+        Some(Address::Brick(brick)) => {
+            if cluster.is_up(brick) {
+                execute::<S, C>(clients, cluster, stores, no)
+            } else {
+                lose_one::<C>(clients, cluster, no)
+            }
+        }
+        Some(
+            Address::Client {
+                client,
+                call,
+                brick,
+                re,
+            },
+        ) => {
+            if clients.is_dead(client) {
+                lose_one::<C>(clients, cluster, no)
+            } else {
+                hear::<T, C>(clients, cluster, alloc, rows, no, client, call, brick, re)
+            }
         }
         None => unreachable!(),
     }

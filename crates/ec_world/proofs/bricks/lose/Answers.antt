@@ -1,14 +1,19 @@
-use Rattle.std.proofs.Common.{ap, refl, subst}
+use Rattle.std.proofs.Common.{None, ap, subst}
+use Rattle.ec_cluster.specs.Views.{size_of}
 use Rattle.ec_clients.specs.Calls.{tabled}
+use Rattle.ec_history.specs.Script.{IsOneStep}
+use Rattle.ec_wire.specs.declared.event.Event.TheVariants.{Lose}
+use Rattle.ec_world.specs.Steps.{IsLoss, OneStep}
 use Rattle.ec_world.specs.Refusals.{IsFound, lose_refusal}
-use Rattle.ec_world.proofs.Advancing.{brick_advances, found_flies, same_breaks}
+use Rattle.ec_world.proofs.Becoming.{one_named, stepped_as}
+use Rattle.ec_world.proofs.Naming.{named_is, names_loss}
+use Rattle.ec_world.proofs.Permitting.{found_flies}
 use Rattle.ec_world.proofs.bricks.lose.Goals as goal
 
-pub lose-requires-clause-flies : goal.lose-requires-clause-flies
-lose-requires-clause-flies g c = found_flies c.args.cluster.now c.args.which c.in-Some.no (subst (IsFound c.args.cluster.now c.args.which) c.in-Some.is c.requires.named)
+pub lose_one-requires-clause-flies : goal.lose_one-requires-clause-flies
+lose_one-requires-clause-flies g c = found_flies c.args.cluster.now c.args.which c.in-Some.no (subst (IsFound c.args.cluster.now c.args.which) c.in-Some.is c.requires.named)
 
-pub returns-in-Ok : goal.returns-in-Ok
-returns-in-Ok g c = λ records. (ap (lose_refusal c.args.which) c.in-Some.is, brick_advances g.C.Conduct.stands (tabled g.C.Conduct.begins g.C.Conduct.goes) c.brick_law.ensures (Unit {0}) c.args.cluster.now c.lose.new.self c.args.clients.now records _ c.requires.sound c.in-Ok.ensures.ok (refl, tt) (tt, tt))
-
-pub returns-in-Err : goal.returns-in-Err
-returns-in-Err g c = λ records. same_breaks g.C.Conduct.stands (tabled g.C.Conduct.begins g.C.Conduct.goes) (Unit {0}) c.args.cluster.now c.lose.new.self c.args.clients.now records c.in-Err.ensures.err
+pub returns-in-Some : goal.returns-in-Some
+returns-in-Some g c = λ records. stepped_as g.C.Conduct.stands (tabled g.C.Conduct.begins g.C.Conduct.goes) (Unit {0}) (Unit {0}) (OneStep (IsLoss c.in-Some.no)) (λ p steps. IsOneStep p.net (Lose c.args.which) steps) c.args.cluster.now c.lose_one.new.cluster c.args.clients.now c.args.clients.now records records (λ t. t)
+    (λ p steps h m x. one_named (IsLoss c.in-Some.no) (Lose c.args.which) p steps (λ e y. names_loss p.net c.args.which c.in-Some.no e (named_is g.C.Conduct.stands (tabled g.C.Conduct.begins g.C.Conduct.goes) c.args.cluster.now c.args.clients.now records p c.requires.sound h m c.args.which c.in-Some.no (subst (IsFound c.args.cluster.now c.args.which) c.in-Some.is c.requires.named)) y) x)
+    None (lose_refusal c.args.which c.args.named) (λ f. ap (lose_refusal c.args.which) c.in-Some.is) (λ e f. absurd (cc)) c.lose_one.result (c.lose_one.ensures records)

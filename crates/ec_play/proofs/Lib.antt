@@ -1,0 +1,10 @@
+pub mod KnownLemmas
+pub mod LineLemmas
+pub mod HeldLines
+pub mod SplitLemmas
+pub mod TextLemmas
+pub mod OrderLemmas
+pub mod LogLemmas
+pub mod GoingLemmas
+pub mod EndLemmas
+pub mod ToldLemmas

@@ -1,0 +1,74 @@
+-- What a script is played on means to the log of a run, and what it promises of an event.
+use Rattle.std.specs.Prelude.{◌≡◌, ◌↔◌, ℕ, ◌+◌, ◌<◌, ◌≤◌, true, false, List, ◌∷◌, ◌++◌, length, slice_index, Option, Some, None, Result, Ok, Err}
+use Rattle.ec_cluster.specs.Matches.{StandsAs}
+use Rattle.ec_history.specs.IsRun.{IsRun}
+use Rattle.ec_history.specs.Run.{Asker, Net, run}
+use Rattle.ec_history.specs.Script.{IsOfEvent, Step, entries_of}
+use Rattle.ec_store.specs.Records.{Records}
+use Rattle.ec_wire.specs.declared.entry.Entry.{Entry}
+use Rattle.ec_wire.specs.declared.event.Event.{Event}
+use Rattle.ec_world.specs.declared.refused.Refused.{Refused}
+use Rattle.ec_world.specs.declared.refused.Refused.TheVariants.{NoMemory}
+
+pub record Meaning (W : Type 0) : Type 1 where
+  -- its log, how many bricks it has and how many calls were made
+  pub log : W → List Entry
+  pub bricks : W → ℕ
+  pub calls : W → ℕ
+  -- what holds of it between two events
+  pub keeps : W → Type 0
+  -- it and the records of the stores are as a net says
+  pub stands : W → List Records → Net → Type 0
+  -- it refuses an event
+  pub refuses : W → Event → Refused → Type 0
+
+-- These entries are those of an event, and a run.
+pub record IsDone (n : ℕ) (m : Net) (event : Event) (entries : List Entry) : Type 0 where
+  pub steps : List Step
+  pub of_steps : entries ≡ entries_of steps
+  pub of_event : IsOfEvent n m event steps
+  pub is_run : IsRun n entries m
+
+-- An event that is done. `Told` says that the stores tell their records.
+pub record Does {W : Type 0} (M : Meaning W) (Told : Type 0) (s t : W) (before after : List Records) (event : Event) : Type 0 where
+  pub entries : List Entry
+  pub goes_on : M.log t ≡ M.log s ++ entries
+  pub bricks : M.bricks t ≡ M.bricks s
+  pub calls : M.calls t ≤ M.calls s + 1
+  pub keeps : M.keeps t
+  pub runs : Told → (m : Net) → M.stands s before m → IsDone (M.bricks s) m event entries × M.stands t after (run entries m)
+
+-- An event that ends for want of memory: the log has its entries so far, which are a run, and the stores stand as these
+-- say.
+pub record Breaks {W : Type 0} (M : Meaning W) (Told : Type 0) (s t : W) (before after : List Records) : Type 0 where
+  pub entries : List Entry
+  pub goes_on : M.log t ≡ M.log s ++ entries
+  pub bricks : M.bricks t ≡ M.bricks s
+  pub runs : Told → (m : Net) → M.stands s before m → IsRun (M.bricks s) entries m × StandsAs (M.bricks s) after (run entries m)
+
+-- An event that is refused changes nothing.
+pub record Refuses {W : Type 0} (M : Meaning W) (Told : Type 0) (s t : W) (before after : List Records) (event : Event) (why : Refused) : Type 0 where
+  pub same : t ≡ s
+  pub kept : after ≡ before
+  pub refused : M.refuses s event why
+
+abbrev pub Fails : {W : Type 0} → Meaning W → Type 0 → W → W → List Records → List Records → Event → Refused → Type 0
+Fails M Told s t before after event NoMemory = Breaks M Told s t before after
+Fails M Told s t before after event why = Refuses M Told s t before after event why
+
+-- what a step promises
+abbrev pub Steps : {W : Type 0} → Meaning W → Type 0 → W → W → List Records → List Records → Event → Result (Unit {0}) Refused → Type 0
+Steps M Told s t before after event (Ok x) = Does M Told s t before after event
+Steps M Told s t before after event (Err why) = Fails M Told s t before after event why
+
+-- a call that was made and has no answer
+pub record IsUnanswered (m : Net) (call : ℕ) : Type 0 where
+  pub asker : Asker
+  pub made : m.asker call ≡ Some asker
+  pub unanswered : m.answered call ≡ false
+
+-- The calls that were made and have no answer, rising.
+pub record AreUnanswered (m : Net) (calls : List ℕ) : Type 0 where
+  pub rising : (i j : ℕ) → i < j → j < length calls → slice_index calls i < slice_index calls j
+  pub made : (i : ℕ) → i < length calls → IsUnanswered m (slice_index calls i)
+  pub all : (call : ℕ) → IsUnanswered m call → (i : ℕ) × (i < length calls) × (slice_index calls i ≡ call)

@@ -2,5 +2,10 @@ pub mod Held
 pub mod Told
 pub mod Views
 pub mod Leaves
+pub mod Sinks
+pub mod Gets
+pub mod Above
+pub mod Copies
 pub mod Reading
 pub mod Laws
+pub mod WorkedSinks

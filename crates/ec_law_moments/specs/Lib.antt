@@ -1,2 +1,5 @@
 pub mod Then
+pub mod Windows
 pub mod Reads
+pub mod Reference
+pub mod WorkedSinks

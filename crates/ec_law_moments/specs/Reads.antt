@@ -1,5 +1,5 @@
--- Readers beside the machine of pieces: what they are given under their grants, and the file as it was at each turn's
--- moment.
+-- Readers and heals beside the machine of pieces: what they are given and copy under their grants, and the file as it was
+-- at each turn's moment.
 use Rattle.std.specs.Prelude.{◌≡◌, ℕ, ◌+◌, ◌<◌, ◌≤◌, Bool, true, false, cond, ◌==◌, Option, Some, None, List, [], ◌∷◌}
 use Rattle.ec_attr.specs.Bricks.{count_below}
 use Rattle.ec_history.specs.Flat.Opener.{Nobody}
@@ -11,12 +11,17 @@ use Rattle.ec_law_pieces.specs.Deed.{Deed, MayDo, step as deed_step, mark_places
 use Rattle.ec_law_pieces.specs.Deed.Deed.{Do}
 use Rattle.ec_law_pieces.specs.Laws.{Stands, start}
 use Rattle.ec_law_moments.specs.Then.{is_told, MayRead}
+use Rattle.ec_law_moments.specs.Windows.{Source, Fenced, stirs, copies}
 
--- `then` is, by turn, the file as it was at its moment; `given` what a reader was given, by turn, brick and place.
+-- `then` is, by turn, the file as it was at its moment; `given` what a reader was given, by turn, brick and place. Of a
+-- heal's sinks: `stirred` is, by turn, brick and place, whether a data request was executed since the turn's moment, and
+-- `copied` the last copy, by brick and place.
 pub record World (P V C U S : Type 0) : Type 0 where
   pub file : File P V C U S
   pub then : ℕ → File P V C U S
   pub given : ℕ → ℕ → P → Option C
+  pub stirred : ℕ → ℕ → P → Bool
+  pub copied : ℕ → P → Source P V C U S
 
 pub data Happening (P V C U S : Type 0) : Type 0 where
   Go : (deed : Deed P V C U S) → Happening P V C U S
@@ -28,12 +33,12 @@ noted w e y = w.then y
 
 module _ {P V C U S : Type 0} (form : Form P V C U S) (n k : ℕ) where
   abbrev pub step : World P V C U S → Happening P V C U S → World P V C U S
-  step w (Go e) = record w { file = deed_step form n k w.file e; then = noted w e }
+  step w (Go e) = record w { file = deed_step form n k w.file e; then = noted w e; stirred = stirs e w.stirred; copied = copies e w.file w.copied }
   step w (Fetch x b places) = record w { given = mark_places w.given x b places (λ p. Some (w.file.piece b p)) }
 
   -- a turn fetches under a grant that it had at its moment, after its Query; under an exclusive one before it has a ballot
   abbrev pub May : World P V C U S → Happening P V C U S → Type 0
-  May w (Go e) = MayDo form n k w.file e
+  May w (Go e) = MayDo form n k w.file e × Fenced w.file e
   May w (Fetch x b places) = MayRead w.file.heads x b × (w.file.heads.early x b ≡ true) × (w.file.heads.moment x ≡ true) × (saw w.file.heads x b ≡ true) × (w.file.heads.present b ≡ true)
 
   abbrev pub after : List (Happening P V C U S) → World P V C U S → World P V C U S
@@ -46,7 +51,7 @@ module _ {P V C U S : Type 0} (form : Form P V C U S) (n k : ℕ) where
 
 -- nobody was given anything yet
 abbrev pub opening : {P V C U S : Type 0} → File P V C U S → World P V C U S
-opening f = record { file = f; then = λ x. f; given = λ x b p. None }
+opening f = record { file = f; then = λ x. f; given = λ x b p. None; stirred = λ x b p. false; copied = λ b p. record { turn = 0; file = f } }
 
 abbrev pub AfterEveryRun : {P V C U S : Type 0} → Form P V C U S → (ℕ → ℕ → World P V C U S → Type 0) → Type 0
 AfterEveryRun {P} {V} {C} {U} {S} form law = (n k : ℕ) → n < k + k → k ≤ n → (flat : Flat P U S) (heads : ℕ → Head) (fresh : Bool) (call : ℕ → ℕ) (shape : ℕ → S) (piece : ℕ → P → C) (st : Stands form n k flat heads fresh shape piece)

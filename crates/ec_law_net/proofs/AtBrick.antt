@@ -28,7 +28,7 @@ use Rattle.ec_brick.specs.declared.row.Check.TheVariants.{Content}
 use Rattle.ec_attr.specs.declared.kind.Kind.TheVariants.{File}
 use Rattle.ec_history.specs.Story.{is_done}
 use Rattle.ec_history.specs.Run.{Net, call_of}
-use Rattle.ec_law_net.specs.Turns.{acts_locks, acts_worked, exclusive, has_directory, is_shown, Maker}
+use Rattle.ec_law_net.specs.Turns.{acts_locks, acts_worked, counted, exclusive, has_directory, is_shown, Maker}
 use Rattle.ec_law_net.specs.Link.{Below, GrantsReady, Linked, Ready}
 use Rattle.ec_law_net.proofs.Guarded.{IsGuarded, own_row, works}
 use Rattle.ec_law_net.proofs.Outcomes.{head_kept}
@@ -200,7 +200,7 @@ module _ (n k g : ℕ) (m : Net) (v : View) (b : ℕ) (lt : b < n) (l : Linked n
 
   -- what an execution is, by the brick's step
   abbrev pub Executes : ℕ → Request → Out → Type 0
-  Executes a q o = Stepped n k g m v b (acts_worked g a b (exclusive g Inode (m.brick b).asks) q o.says ++ acts_locks g m v b (m.brick b).asks o.brick.asks) o.brick
+  Executes a q o = Stepped n k g m v b (acts_worked g a b (counted v.core a (exclusive g Inode (m.brick b).asks)) q o.says ++ acts_locks g m v b (m.brick b).asks o.brick.asks) o.brick
 
   no_work : (t u : Bool) → cond {A = List Act} t [] (cond u [] []) ≡ []
   no_work true u = refl
@@ -208,7 +208,7 @@ module _ (n k g : ℕ) (m : Net) (v : View) (b : ℕ) (lt : b < n) (l : Linked n
   no_work false false = refl
 
   -- an Ask or a Release
-  locks : (q : Request) (a : ℕ) (o : Out) → acts_worked g a b (exclusive g Inode (m.brick b).asks) q o.says ≡ [] → head_at o.brick.records g ≡ head_at (m.brick b).records g → o.brick.removed g ≡ (m.brick b).removed g → GrantsReady g m v b (m.brick b).asks o.brick.asks → Executes a q o
+  locks : (q : Request) (a : ℕ) (o : Out) → acts_worked g a b (counted v.core a (exclusive g Inode (m.brick b).asks)) q o.says ≡ [] → head_at o.brick.records g ≡ head_at (m.brick b).records g → o.brick.removed g ≡ (m.brick b).removed g → GrantsReady g m v b (m.brick b).asks o.brick.asks → Executes a q o
   locks q a o e f u ready = subst (λ (xs : List Act). Stepped n k g m v b (xs ++ acts_locks g m v b (m.brick b).asks o.brick.asks) o.brick) (sym e) (stepped_locks n k g m v b (l.heads b lt) (l.removed b lt) (l.holders b lt) (l.healers b lt) (l.makers b lt) (own_grants n g m v l) o.brick f u ready)
 
   -- the acts of an execution, and that its brick's asks came before and that it stays up
@@ -221,7 +221,7 @@ module _ (n k g : ℕ) (m : Net) (v : View) (b : ℕ) (lt : b < n) (l : Linked n
   guarded q a client number f w e ready =
       let d = works n k g m v b a (l.heads b lt) (l.removed b lt) (l.holders b lt) (l.healers b lt) (own_grants n g m v l) q f w ready in
       subst (Does a q) (sym e) (record {
-        stepped = stepped_work n k g m v b (l.heads b lt) (l.removed b lt) (l.holders b lt) (l.healers b lt) (l.makers b lt) (own_grants n g m v l) (acts_worked g a b (exclusive g Inode (m.brick b).asks) q (by_row (m.brick b) f (work (m.brick b) q) (row_of q)).says) (by_row (m.brick b) f (work (m.brick b) q) (row_of q)).brick d;
+        stepped = stepped_work n k g m v b (l.heads b lt) (l.removed b lt) (l.holders b lt) (l.healers b lt) (l.makers b lt) (own_grants n g m v l) (acts_worked g a b (counted v.core a (exclusive g Inode (m.brick b).asks)) q (by_row (m.brick b) f (work (m.brick b) q) (row_of q)).says) (by_row (m.brick b) f (work (m.brick b) q) (row_of q)).brick d;
         below = subst (Below m.next) (sym d.asks) (l.asked b lt);
         up = d.up;
       })

@@ -18,7 +18,7 @@ use Rattle.ec_wire.specs.declared.request.Request.{Request}
 use Rattle.ec_law_net.specs.Conducts.{ConductLaws, MaySendThere}
 
 -- own entries that go on
-abbrev Grows : List Own → List Own → Type 0
+abbrev pub Grows : List Own → List Own → Type 0
 Grows xs ys = (more : List Own) × (ys ≡ xs ++ more)
 
 no_more : (xs : List Own) → xs ≡ xs ++ []
@@ -28,7 +28,7 @@ no_more (x ∷ xs) = ap (λ (ys : List Own). x ∷ ys) (no_more xs)
 same_own : (xs : List Own) → Grows xs xs
 same_own xs = ([], no_more xs)
 
-together : (xs ys zs : List Own) → (xs ++ ys) ++ zs ≡ xs ++ (ys ++ zs)
+pub together : (xs ys zs : List Own) → (xs ++ ys) ++ zs ≡ xs ++ (ys ++ zs)
 together [] ys zs = refl
 together (x ∷ xs) ys zs = ap (λ (us : List Own). x ∷ us) (together xs ys zs)
 
@@ -81,7 +81,7 @@ entry_grows geometry left m t b (Torn i bytes version) a = same_own (b.own a)
 entry_grows geometry left m t b (Answered c answer) a = one_more b c (Answers answer) a
 entry_grows geometry left m t b (Replaced x removed all) a = same_own (b.own a)
 
-log_grows : (geometry : Geometry) (left : ℕ → Leaving) (es : List Entry) (m : Net) (t : Story) (b : Books) (a : ℕ) → Grows (b.own a) ((books geometry left es m t b).own a)
+pub log_grows : (geometry : Geometry) (left : ℕ → Leaving) (es : List Entry) (m : Net) (t : Story) (b : Books) (a : ℕ) → Grows (b.own a) ((books geometry left es m t b).own a)
 log_grows geometry left [] m t b a = same_own (b.own a)
 log_grows geometry left (e ∷ es) m t b a = further (b.own a) ((booked geometry left m t b e).own a) ((books geometry left (e ∷ es) m t b).own a) (entry_grows geometry left m t b e a) (log_grows geometry left es (after m e) (told geometry m t e) (booked geometry left m t b e) a)
 
@@ -94,7 +94,7 @@ pub keeps_there : (c : Account) (xs : List Own) (e : Own) (ys : List Own) → Ke
 keeps_there c [] e ys h = h.0
 keeps_there c (x ∷ xs) e ys h = keeps_there (account_after c x) xs e ys h.1
 
-sent_own : (m : Net) (b : Books) (msg : Message) (q : Request) (body : Body) (a : ℕ) → body ≡ ToBrick q → sender m b msg q ≡ Some a → (sends m b msg body).own a ≡ b.own a ++ Sends msg.brick msg.no q ∷ []
+pub sent_own : (m : Net) (b : Books) (msg : Message) (q : Request) (body : Body) (a : ℕ) → body ≡ ToBrick q → sender m b msg q ≡ Some a → (sends m b msg body).own a ≡ b.own a ++ Sends msg.brick msg.no q ∷ []
 sent_own m b msg q body a is by = subst (λ (z : Body). (sends m b msg z).own a ≡ b.own a ++ Sends msg.brick msg.no q ∷ []) (sym is) (subst (λ (o : Option ℕ). (own_of b o (Sends msg.brick msg.no q)).own a ≡ b.own a ++ Sends msg.brick msg.no q ∷ []) (sym by) (at (a == a) (itself a)))
   where
     itself : (x : ℕ) → (x == x) ≡ true

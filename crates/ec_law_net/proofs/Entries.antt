@@ -23,7 +23,7 @@ use Rattle.ec_brick.specs.Meets.{failing_at}
 use Rattle.ec_brick.specs.Step.{Out, cut_off, executed as executed_at, quiet as quiet_out, started, stopped, torn_off as torn_at}
 use Rattle.ec_history.specs.IsRun.{MayExecute, MaySay, MayTear}
 use Rattle.ec_history.specs.Run.{Net, after as net_after, executed, executed_as, executed_by, failing, out_of, torn_by, torn_off, torn_out, wiped}
-use Rattle.ec_law_net.specs.Turns.{acts, acts_executed, acts_of_request, acts_torn, acts_locks, acts_worked, exclusive, noted, turn_after, turn_of}
+use Rattle.ec_law_net.specs.Turns.{acts, acts_executed, acts_of_request, acts_torn, acts_locks, acts_worked, counted, exclusive, noted, turn_after, turn_of}
 use Rattle.ec_law_net.specs.Link.{Below, BodyReady, GrantsReady, Linked, MessageReady}
 use Rattle.ec_law_net.proofs.AtBrick.{Does, below_filter, does, loses, rests, stops, torn_down, torn_heads}
 use Rattle.ec_law_net.proofs.Linking.{Replaces, linked_brick, linked_same}
@@ -82,10 +82,10 @@ module _ (n k g : ℕ) (m : Net) (v : View) (l : Linked n g m v) where
       went : out_of m msg q version failed ≡ executed_at (m.brick msg.brick) (failing failed version) msg.client msg.no q
       went = ap (λ (t : Bool). cond t (executed_at (m.brick msg.brick) (failing failed version) msg.client msg.no q) (quiet_out (m.brick msg.brick))) up
 
-      run_it : (o : Out) → o ≡ executed_at (m.brick msg.brick) (failing failed version) msg.client msg.no q → GrantsReady g m v msg.brick (m.brick msg.brick).asks o.brick.asks → Goes n k g m (executed_as m msg o) v v (acts_worked g (v.of msg.no) msg.brick (exclusive g Inode (m.brick msg.brick).asks) q o.says ++ acts_locks g m v msg.brick (m.brick msg.brick).asks o.brick.asks)
+      run_it : (o : Out) → o ≡ executed_at (m.brick msg.brick) (failing failed version) msg.client msg.no q → GrantsReady g m v msg.brick (m.brick msg.brick).asks o.brick.asks → Goes n k g m (executed_as m msg o) v v (acts_worked g (v.of msg.no) msg.brick (counted v.core (v.of msg.no) (exclusive g Inode (m.brick msg.brick).asks)) q o.says ++ acts_locks g m v msg.brick (m.brick msg.brick).asks o.brick.asks)
       run_it o e grants =
           let d = subst (Does n k g m v msg.brick (l.to i msg q said body) l (v.of msg.no) q) (sym e) (does n k g m v msg.brick (l.to i msg q said body) l q (v.of msg.no) msg.client msg.no (failing failed version) (let x = l.said i msg said in let y = x.1 in omega (arith, x.0)) ready.0 (subst (λ (z : Out). GrantsReady g m v msg.brick (m.brick msg.brick).asks z.brick.asks) e grants)) in
-          at_brick msg.brick o.brick (executed_as m msg o) (acts_worked g (v.of msg.no) msg.brick (exclusive g Inode (m.brick msg.brick).asks) q o.says ++ acts_locks g m v msg.brick (m.brick msg.brick).asks o.brick.asks) (l.to i msg q said body) (record { brick = λ c. refl; said = refl; next = refl }) d.below (λ f. absurd (let x = sym f ∙ (d.up ∙ up) in cc)) d.stepped
+          at_brick msg.brick o.brick (executed_as m msg o) (acts_worked g (v.of msg.no) msg.brick (counted v.core (v.of msg.no) (exclusive g Inode (m.brick msg.brick).asks)) q o.says ++ acts_locks g m v msg.brick (m.brick msg.brick).asks o.brick.asks) (l.to i msg q said body) (record { brick = λ c. refl; said = refl; next = refl }) d.below (λ f. absurd (let x = sym f ∙ (d.up ∙ up) in cc)) d.stepped
 
   pub on_executed : (i : ℕ) (version : Option ℕ) (failed : Bool) → MayExecute m i version failed → MessageReady n k g m v (m.said i) version failed → Goes n k g m (net_after m (Executed i version failed)) v v (acts g m v (Executed i version failed))
   on_executed i version failed may ready = subst (λ (o : Option Message). Goes n k g m (executed m o version failed) v v (acts_executed g m v o version failed)) (sym may.at.said) (on_request i may.message may.request version failed may.at.said may.at.body may.at.up (subst (λ (z : Body). BodyReady n k g m v may.message z version failed) may.at.body (subst (λ (o : Option Message). MessageReady n k g m v o version failed) may.at.said ready)))

@@ -17,7 +17,7 @@ use Rattle.ec_law_net.proofs.Tables.{missing_append, missing_filter}
 use Rattle.ec_brick.specs.Step.{quiet as quiet_out}
 use Rattle.ec_history.specs.Run.{Net, Owed, executed_by, failing, let_in_owed, out_of, own_owed}
 use Rattle.ec_law_ballots.specs.Act.{after}
-use Rattle.ec_law_net.specs.Turns.{View, acts_locks, acts_of_request, acts_worked, exclusive}
+use Rattle.ec_law_net.specs.Turns.{View, acts_locks, acts_of_request, acts_worked, counted, exclusive}
 use Rattle.ec_law_net.specs.Link.{GrantsReady, Linked}
 use Rattle.ec_law_net.specs.Grants.{AreAsks, AsksOnce, HealsReady, IsAskOf, LocksStand}
 use Rattle.ec_law_net.proofs.Changed.{after_both}
@@ -124,8 +124,8 @@ module _ (n g : ℕ) (m : Net) (v : View) (link : Linked n g m v) (l : LocksStan
         let o = out_of m msg q version failed in
         let owed = own_owed msg o.says ++ let_in_owed m msg.brick o in
         let tab = tabled o owed (table_of version failed up) in
-        let xs = acts_worked g (v.of msg.no) msg.brick (exclusive g Inode (m.brick msg.brick).asks) q o.says in
+        let xs = acts_worked g (v.of msg.no) msg.brick (counted v.core (v.of msg.no) (exclusive g Inode (m.brick msg.brick).asks)) q o.says in
         let ys = acts_locks g m v msg.brick (m.brick msg.brick).asks o.brick.asks in
         locks_brick n g m v msg.brick o.brick (put m.flying msg.no false) owed (after (xs ++ ys) v.core) l (landed_put m.flying msg.no) (λ h. tab.are) tab.stays
-        (λ a c e. ⊎_elim (λ h. inl (sym (worked_keeps g (v.of msg.no) msg.brick (exclusive g Inode (m.brick msg.brick).asks) q o.says v.core a c) ∙ h)) (λ h. inr h) (locks_newly g m v msg.brick (m.brick msg.brick).asks o.brick.asks (after xs v.core) a c (subst (λ (s : State). s.granted a c ≡ true) (after_both xs ys v.core) e)))
+        (λ a c e. ⊎_elim (λ h. inl (sym (worked_keeps g (v.of msg.no) msg.brick (counted v.core (v.of msg.no) (exclusive g Inode (m.brick msg.brick).asks)) q o.says v.core a c) ∙ h)) (λ h. inr h) (locks_newly g m v msg.brick (m.brick msg.brick).asks o.brick.asks (after xs v.core) a c (subst (λ (s : State). s.granted a c ≡ true) (after_both xs ys v.core) e)))
         (after_old (xs ++ ys) v.core)

@@ -105,7 +105,7 @@ module _ (n g : ℕ) (m : Net) (v : View) (link : Linked n g m v) (l : LocksStan
       went : torn_out m may.message may.request bytes version ≡ torn_at (m.brick may.message.brick) (failing_at version) may.request bytes
       went = ap (λ (t : Bool). cond t (torn_at (m.brick may.message.brick) (failing_at version) may.request bytes) (quiet_out (m.brick may.message.brick))) may.at.up
 
-locks_entry : (n g : ℕ) (m : Net) (v : View) (e : Entry) → MayEnter n m e → Linked n g m v → LocksStand n g m v → LocksStand n g (net_after m e) (seen_after g m v e)
+pub locks_entry : (n g : ℕ) (m : Net) (v : View) (e : Entry) → MayEnter n m e → Linked n g m v → LocksStand n g m v → LocksStand n g (net_after m e) (seen_after g m v e)
 locks_entry n g m v (Called a client op) may k l = let h = made_same g v a op in locks_same n g m (net_after m (Called a client op)) v (record (made_by g v a op) { core = v.core }) l refl refl (λ i e. e) refl h.0 h.1
 locks_entry n g m v (Sent msg) may k l = locks_sent n g m v msg k l may.0
 locks_entry n g m v (Executed i version failed) may k l = executed_so n g m v k l i version failed may
@@ -131,7 +131,7 @@ sent_ready n k g s a real (ToBrick (Query x i)) h = at (x.0 == g) (s.moment a) r
     at true false e = ((e, real), refl)
 sent_ready n k g s a real body h = h
 
-entry_ready : (n k g : ℕ) (m : Net) (v : View) (e : Entry) → MayEnter n m e → Linked n g m v → LocksStand n g m v → AsksOnce g m v → EntryKnown n k g m v e → EntryReady n k g m v e
+pub entry_ready : (n k g : ℕ) (m : Net) (v : View) (e : Entry) → MayEnter n m e → Linked n g m v → LocksStand n g m v → AsksOnce g m v → EntryKnown n k g m v e → EntryReady n k g m v e
 entry_ready n k g m v (Called a client op) may link l once r = tt
 entry_ready n k g m v (Sent msg) may link l once r = sent_ready n k g v.core (turn_of g v msg) (real_turn n g m v msg link l may.0) msg.body r
 entry_ready n k g m v (Executed i version failed) may link l once r =
@@ -159,7 +159,7 @@ grants_follow n k g (e ∷ es) m v runs link l known =
     let r = entry_ready n k g m v e runs.0 link l known.0 known.1 in
     (r, grants_follow n k g es (net_after m e) (seen_after g m v e) runs.1 (goes n k g m v e runs.0 link r).linked (locks_entry n g m v e runs.0 link l) known.2)
 
-locks_start : (config : Config) (records : ℕ → Records) (bricks : ℕ → Brick) (tree : Tree) (next g : ℕ) (call : ℕ → ℕ) → IsStart config records bricks tree next → LocksStand config.geometry.n g (fresh bricks) (first_view config.geometry.n (tree g).version records g call next)
+pub locks_start : (config : Config) (records : ℕ → Records) (bricks : ℕ → Brick) (tree : Tree) (next g : ℕ) (call : ℕ → ℕ) → IsStart config records bricks tree next → LocksStand config.geometry.n g (fresh bricks) (first_view config.geometry.n (tree g).version records g call next)
 locks_start config records bricks tree next g call start = record {
   asks = λ b lt. subst (AreAsks (fresh bricks) b) (sym (start.opened b lt).unlocked) tt;
   once = λ a b lt e. absurd (cc);

@@ -22,7 +22,7 @@ use Rattle.ec_brick.specs.declared.row.Need.TheVariants.{Reading, Writing, Heali
 use Rattle.ec_brick.specs.declared.row.Check.TheVariants.{Present, OfKind, Content, Absent, Fresh}
 use Rattle.ec_history.specs.Story.{is_done}
 use Rattle.ec_history.specs.Run.{Net, call_of, is_number}
-use Rattle.ec_law_net.specs.Turns.{exclusive, is_shown}
+use Rattle.ec_law_net.specs.Turns.{counted, exclusive, is_shown}
 use Rattle.ec_law_net.specs.Link.{Ready}
 use Rattle.ec_law_net.proofs.Changed.{OwnGrants}
 use Rattle.ec_law_net.proofs.Making.{made, make, unmake}
@@ -82,15 +82,16 @@ module _ (n k g : ℕ) (m : Net) (v : View) (b a : ℕ) (s : Brick) (is : IsHead
   unchanged q r o h f (inl d) = (ap (λ (z : Brick). head_at z.records g) d.brick ∙ h, ap (λ (z : Brick). z.removed g) d.brick ∙ f, ap (λ (z : Brick). z.asks) d.brick, ap (λ (z : Brick). z.up) d.brick)
   unchanged q r o h f (inr d) = (d.heads g, d.removed g, d.asks, d.up)
 
-  on_query : (x : Gfid) (i : ℕ) (f : Failing) → (x.0 ≡ g → exclusive g Inode s.asks ≡ Some i → IsQuery v a b i) → Works n k g m v b a s is gone holder healer own (Query x i) f
+  on_query : (x : Gfid) (i : ℕ) (f : Failing) → (x.0 ≡ g → exclusive g Inode s.asks ≡ Some i → (v.core.ballot a).number ≡ 0 → IsQuery v a b i) → Works n k g m v b a s is gone holder healer own (Query x i) f
   on_query x i f ready =
       let o = by_row s f (work s (Query x i)) (Some (own_row x i Reading Present)) in
       let u = unchanged (Query x i) (own_row x i Reading Present) o refl refl (outcome s (Query x i) (own_row x i Reading Present) f) in
-      shown n k g b v s is gone a i ((x.0 == g) && is_number i (exclusive g Inode s.asks)) (is_done o.says) (is_shown o.says) o.brick u.0 u.1 u.2 u.3 (λ h. let e = hit (exclusive g Inode s.asks) h in let r = ready e.0 e.1 in (holder ∙ (ap (option_map v.of) e.1 ∙ ap (λ (z : ℕ). Some z) r.own), r))
+      shown n k g b v s is gone a i ((x.0 == g) && is_number i (counted v.core a (exclusive g Inode s.asks))) (is_done o.says) (is_shown o.says) o.brick u.0 u.1 u.2 u.3 (λ h. let e = hit (exclusive g Inode s.asks) ((v.core.ballot a).number == 0) refl h in let r = ready e.0 e.1 e.2 in (holder ∙ (ap (option_map v.of) e.1 ∙ ap (λ (z : ℕ). Some z) r.own), r))
     where
-      hit : (o : Option ℕ) → ((x.0 == g) && is_number i o) ≡ true → (x.0 ≡ g) × (o ≡ Some i)
-      hit None h = absurd (grind (arith, nat_tests))
-      hit (Some j) h = (grind (arith, nat_tests), ap (λ (z : ℕ). Some z) (grind (arith, nat_tests)))
+      hit : (o : Option ℕ) (t : Bool) → ((v.core.ballot a).number == 0) ≡ t → ((x.0 == g) && is_number i (cond t o None)) ≡ true → (x.0 ≡ g) × (o ≡ Some i) × ((v.core.ballot a).number ≡ 0)
+      hit o false e h = absurd (grind (arith, nat_tests))
+      hit None true e h = absurd (grind (arith, nat_tests))
+      hit (Some j) true e h = (grind (arith, nat_tests), ap (λ (z : ℕ). Some z) (grind (arith, nat_tests)), grind (arith, nat_tests))
 
   on_read : (x : Gfid) (i first count : ℕ) (f : Failing) → Works n k g m v b a s is gone holder healer own (ReadChunks x i first count) f
   on_read x i first count f = quiet n k g b v s is gone (ReadChunks x i first count) (own_row x i Reading (OfKind File)) _ refl refl (outcome s (ReadChunks x i first count) (own_row x i Reading (OfKind File)) f)

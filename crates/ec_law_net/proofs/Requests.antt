@@ -28,7 +28,7 @@ use Rattle.ec_brick.specs.declared.row.Row.{Row}
 use Rattle.ec_brick.specs.declared.row.Need.TheVariants.{Writing, Healing}
 use Rattle.ec_brick.specs.declared.row.Check.TheVariants.{At, Absent, Fresh, Markable}
 use Rattle.ec_history.specs.Run.{Net, call_of}
-use Rattle.ec_law_net.specs.Turns.{acts_worked, exclusive}
+use Rattle.ec_law_net.specs.Turns.{acts_worked, counted, exclusive}
 use Rattle.ec_law_net.proofs.Changed.{OwnGrants}
 use Rattle.ec_law_net.proofs.Doing.{clear, post, pre}
 use Rattle.ec_law_net.proofs.Locks.{held}
@@ -106,7 +106,7 @@ module _ (n k g : ℕ) (m : Net) (v : View) (b a : ℕ) (s : Brick) (is : IsHead
   heals x i e h = healer ∙ ap (option_map (λ i. call_of (m.said i))) (subst (λ (y : ℕ). exclusive y Heal s.asks ≡ Some i) e (held x Heal s.asks i h))
 
   abbrev pub Works : Request → Failing → Type 0
-  Works q f = Worked n k g b (acts_worked g a b (exclusive g Inode s.asks) q (by_row s f (work s q) (row_of q)).says) v.core s (by_row s f (work s q) (row_of q)).brick
+  Works q f = Worked n k g b (acts_worked g a b (counted v.core a (exclusive g Inode s.asks)) q (by_row s f (work s q) (row_of q)).says) v.core s (by_row s f (work s q) (row_of q)).brick
 
   -- the record of x that was looked at is that of g
   pub here : (x : ℕ) (h : Head) → x ≡ g → head_at s.records x ≡ Some h → head_at s.records g ≡ Some h

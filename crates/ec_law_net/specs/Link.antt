@@ -133,7 +133,7 @@ pub record IsMade (v : View) (b : ℕ) : Type 0 where
   pub once : v.core.grown b ≡ false
 
 abbrev pub Ready : ℕ → ℕ → ℕ → Net → View → ℕ → ℕ → Request → Type 0
-Ready n k g m v a b (Query x grant) = x.0 ≡ g → exclusive g Inode (m.brick b).asks ≡ Some grant → IsQuery v a b grant
+Ready n k g m v a b (Query x grant) = x.0 ≡ g → exclusive g Inode (m.brick b).asks ≡ Some grant → (v.core.ballot a).number ≡ 0 → IsQuery v a b grant
 Ready n k g m v a b (PreOp x grant at number) = x.0 ≡ g → IsPreOp v a b grant at number
 Ready n k g m v a b (PostOp x grant at version size attr) = x.0 ≡ g → IsPostOp n k v a b grant at version
 Ready n k g m v a b (Clear x grant at) = x.0 ≡ g → IsClear n v a b grant at

@@ -109,7 +109,11 @@ exclusive_from g d before (a ∷ rest) = cond (free before a && ((a.gfid.0 == g)
 abbrev pub exclusive : ℕ → Domain → List Asking → Option ℕ
 exclusive g d asks = exclusive_from g d [] asks
 
--- a Query counts where its call has the content for itself
+-- A Query counts where its call has the content for itself, until the turn takes its ballot: one that comes later told the
+-- call nothing.
+abbrev pub counted : State → ℕ → Option ℕ → Option ℕ
+counted s a holder = cond ((s.ballot a).number == 0) holder None
+
 abbrev pub acts_shown : ℕ → ℕ → ℕ → Option ℕ → Request → List Act
 acts_shown g a b holder (Query x n) = cond ((x.0 == g) && is_number n holder) (See a b ∷ []) []
 acts_shown g a b holder q = []
@@ -160,7 +164,7 @@ acts_locks g m v b old new =
 
 abbrev pub acts_of_request : ℕ → Net → View → Message → Body → Option ℕ → Bool → List Act
 acts_of_request g m v msg (ToBrick q) version failed =
-    acts_worked g (v.of msg.no) msg.brick (exclusive g Inode (m.brick msg.brick).asks) q (out_of m msg q version failed).says
+    acts_worked g (v.of msg.no) msg.brick (counted v.core (v.of msg.no) (exclusive g Inode (m.brick msg.brick).asks)) q (out_of m msg q version failed).says
     ++ acts_locks g m v msg.brick (m.brick msg.brick).asks (out_of m msg q version failed).brick.asks
 acts_of_request g m v msg (ToClient re reply) version failed = []
 

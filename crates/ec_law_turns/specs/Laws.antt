@@ -1,0 +1,58 @@
+-- What holds of every log in which each call keeps the conduct in order.
+use Rattle.std.specs.Prelude.{ℕ, ◌+◌, ◌<◌, List, [], ◌∷◌}
+use Rattle.ec_attr.specs.declared.config.Config.{Config}
+use Rattle.ec_brick.specs.State.{State as Brick}
+use Rattle.ec_history.specs.Flat.{Tree}
+use Rattle.ec_history.specs.IsRun.{IsRun}
+use Rattle.ec_history.specs.Run.{Net, after, fresh}
+use Rattle.ec_history.specs.Starts.{IsStart}
+use Rattle.ec_history.specs.Story.{opening}
+use Rattle.ec_store.specs.Records.{Records}
+use Rattle.ec_wire.specs.declared.entry.Entry.{Entry}
+use Rattle.ec_conduct.specs.Given.{quorum}
+use Rattle.ec_law_base.specs.State.{State}
+use Rattle.ec_law_quorum.specs.Laws.{AboveOthers, NoTwoAlike}
+use Rattle.ec_law_net.specs.Grants.{AsksOnce}
+use Rattle.ec_law_net.specs.Start.{first_view}
+use Rattle.ec_law_net.specs.Turns.{View, seen_after, view}
+use Rattle.ec_law_turns.specs.Orderly.{ArePlain, IsOrderly}
+use Rattle.ec_law_turns.specs.Told.{AllTold}
+
+-- at the beginning and after each entry
+abbrev pub Always : (Net → View → Type 0) → ℕ → List Entry → Net → View → Type 0
+Always law g [] m v = law m v
+Always law g (e ∷ es) m v = law m v × Always law g es (after m e) (seen_after g m v e)
+
+-- A law of each moment of every log that begins with bricks that stand for a tree, in which the calls are plain and keep the
+-- conduct in order.
+abbrev pub InEveryLog : (ℕ → Net → View → Type 0) → Type 0
+InEveryLog law =
+    (config : Config) (records : ℕ → Records) (bricks : ℕ → Brick) (tree : Tree) (next g : ℕ) (call : ℕ → ℕ) (es : List Entry)
+    → IsStart config records bricks tree next
+    → IsRun config.geometry.n es (fresh bricks)
+    → ArePlain es
+    → IsOrderly config.geometry es (fresh bricks) (opening tree next)
+    → Always (law g) g es (fresh bricks) (first_view config.geometry.n (tree g).version records g call next)
+
+pub record TurnLaws : Type 0 where
+  -- a turn asks a brick for the content once
+  pub asks_once : InEveryLog AsksOnce
+
+-- A law of versions after every such log, for any geometry of which two quorums share a brick, in which the calls went on as
+-- bricks had told them.
+abbrev pub AfterEveryToldLog : (ℕ → ℕ → State → Type 0) → Type 0
+AfterEveryToldLog law =
+    (config : Config) (records : ℕ → Records) (bricks : ℕ → Brick) (tree : Tree) (next g : ℕ) (call : ℕ → ℕ) (es : List Entry)
+    → config.geometry.n < quorum config.geometry + quorum config.geometry
+    → IsStart config records bricks tree next
+    → IsRun config.geometry.n es (fresh bricks)
+    → ArePlain es
+    → IsOrderly config.geometry es (fresh bricks) (opening tree next)
+    → AllTold config.geometry.n (quorum config.geometry) g es (fresh bricks) (first_view config.geometry.n (tree g).version records g call next)
+    → law config.geometry.n (quorum config.geometry) (view g es (fresh bricks) (first_view config.geometry.n (tree g).version records g call next)).core
+
+pub record ToldLaws : Type 0 where
+  -- no two turns of which a brick did the PostOp have the same version
+  pub no_two_alike : AfterEveryToldLog NoTwoAlike
+  -- a commit's version is above that of every brick outside
+  pub above_others : AfterEveryToldLog AboveOthers

@@ -8,7 +8,8 @@ use Rattle.ec_attr.specs.Bricks.{count_below, is_in}
 use Rattle.ec_attr.specs.GoodGroup.{IsGoodGroup, agrees_with, alike, greatest_dirty, has_mark, is_sink}
 use Rattle.ec_attr.specs.declared.head.Head.{Head}
 use Rattle.ec_answers.specs.Choice.{up_from}
-use Rattle.ec_answers.specs.Grouping.{IsGrouped, absent, given_by, head_in, heads_of, is_no_inode, with_dirty}
+use Rattle.ec_answers.specs.Grouping.{IsGrouped, absent, given_by, head_in, heads_of, is_no_inode}
+use Rattle.ec_attr.specs.Head.{with_dirty}
 use Rattle.ec_answers.specs.declared.answers.Answers.{Answers}
 use Rattle.ec_answers.specs.declared.answers.Given.{Given}
 use Rattle.ec_answers.specs.declared.answers.Given.TheVariants.{Head as HeadGiven, NoInode, Other}
@@ -70,7 +71,7 @@ not_member k heads p c good few = elim (cases_Bool (p c)) [
 pub found : (k : ℕ) (a : Answers) (b : ℕ) (h : Head) (g : Group) → heads_of a b ≡ Some h → has_mark h ≡ false
     → ((c : ℕ) → is_in g.bricks c ≡ agrees_with h (heads_of a c)) → k ≤ count_below 31 (is_in g.bricks)
     → ((c : ℕ) → is_in g.sinks c ≡ is_sink g.head (heads_of a c))
-    → g.head ≡ with_dirty h (greatest_dirty (heads_of a) (is_in g.bricks)) → ((c : ℕ) → c < b → count_below 31 (alike (heads_of a) c) < k) → IsGrouped k a (Found g)
+    → g.head ≡ with_dirty (greatest_dirty (heads_of a) (is_in g.bricks)) h → ((c : ℕ) → c < b → count_below 31 (alike (heads_of a) c) < k) → IsGrouped k a (Found g)
 found k a b h g e f agreeing enough sinks head fewer =
     let same = same_bricks a b g.bricks h e f agreeing in
     let good : IsGoodGroup k (heads_of a) (is_in g.bricks) = subst (IsGoodGroup k (heads_of a)) (sym same)

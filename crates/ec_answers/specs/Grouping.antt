@@ -2,6 +2,7 @@
 use Rattle.std.specs.Prelude.{◌≡◌, ℕ, ◌<◌, ◌≤◌, max, Bool, true, false, Option, Some, None, slice_index_or}
 use Rattle.ec_attr.specs.Bricks.{count_below, is_in}
 use Rattle.ec_attr.specs.GoodGroup.{IsGoodGroup, greatest_dirty, is_sink, most_alike}
+use Rattle.ec_attr.specs.Head.{with_dirty}
 use Rattle.ec_attr.specs.declared.head.Head.{Head}
 use Rattle.ec_answers.specs.declared.answers.Answers.{Answers}
 use Rattle.ec_answers.specs.declared.answers.Given.{Given}
@@ -37,14 +38,10 @@ absent a b = is_no_inode (given_by a b)
 abbrev pub largest_alike : Answers → ℕ
 largest_alike a = max (most_alike (heads_of a)) (count_below 31 (absent a))
 
--- a brick's head with this dirty number
-abbrev pub with_dirty : Head → ℕ → Head
-with_dirty h dirty = record h { dirty = record h.dirty { content = dirty } }
-
 -- the head is that of the first brick of the group, with the greatest dirty number of the group
 abbrev pub IsHeadOf : (ℕ → Option Head) → (ℕ → Bool) → Head → Type 0
 IsHeadOf heads group head =
-    (b : ℕ) × (h : Head) × (group b ≡ true) × (heads b ≡ Some h) × (head ≡ with_dirty h (greatest_dirty heads group)) × ((c : ℕ) → c < b → group c ≡ false)
+    (b : ℕ) × (h : Head) × (group b ≡ true) × (heads b ≡ Some h) × (head ≡ with_dirty (greatest_dirty heads group) h) × ((c : ℕ) → c < b → group c ≡ false)
 
 -- What k bricks say that answered alike: the good group among them, with its sinks and its head, or that there is no
 -- record. Else no k of them are alike.

@@ -2,7 +2,8 @@
 ghost use Rattle.std.specs.Prelude.{◌≡◌, ◌≤◌, ◌-◌, ℕ, Bool, None};
 ghost use Rattle.ec_attr.specs.Bricks.{count_below, is_in};
 ghost use Rattle.ec_attr.specs.GoodGroup.{IsGoodGroup, greatest_dirty, is_sink};
-ghost use Rattle.ec_answers.specs.Grouping.{IsGone, IsGroupOf, IsGrouped, absent, given_by, heads_of, with_dirty};
+ghost use Rattle.ec_answers.specs.Grouping.{IsGone, IsGroupOf, IsGrouped, absent, given_by, heads_of};
+ghost use Rattle.ec_attr.specs.Head.{with_dirty};
 
 use crate::answers::Answers;
 use crate::grouped::{Group, Grouped};
@@ -41,7 +42,7 @@ pub fn group(a: &Answers, g: &Geometry) -> Grouped
 fn group_of(a: &Answers, bricks: BrickSet, head: Head) -> Group
     ensures bricks { result.bricks ≡ bricks }
     ensures sinks { (b : ℕ) → is_in result.sinks b ≡ is_sink result.head (heads_of a.now b) }
-    ensures head { result.head ≡ with_dirty head (greatest_dirty (heads_of a.now) (is_in bricks)) }
+    ensures head { result.head ≡ with_dirty (greatest_dirty (heads_of a.now) (is_in bricks)) head }
 {
     let mut head = head;
     head.dirty.content = greatest_dirty(a, &bricks);

@@ -14,8 +14,9 @@ use Rattle.ec_wire.specs.declared.reply.Reply.TheVariants.{Done}
 use Rattle.ec_brick.specs.Inner.{DoesWork, done_of, head_after, subject_of, is_reading}
 use Rattle.ec_brick.specs.Known.{AreKnown}
 use Rattle.ec_brick.specs.Replies.{Is, own_of}
-use Rattle.ec_brick.specs.Work.{broken_of, bytes_of, committed, new_head, unmarked, with_dirty, with_head_by, work_of, removed_of}
+use Rattle.ec_brick.specs.Work.{broken_of, bytes_of, committed, new_head, unmarked, with_head_by, work_of, removed_of}
 use Rattle.ec_brick.proofs.Known.{front_known, known_equal}
+use Rattle.ec_attr.specs.Head.{with_dirty}
 
 known_after : (m n b : Records) → n ≡ m → b ≡ m → AreKnown b n
 known_after m n b e k = subst (λ x. AreKnown x n) (sym k) (known_equal m n e)

@@ -12,9 +12,10 @@ use Rattle.ec_wire.specs.declared.request.Request.TheVariants.{Ask, Release, Que
 use Rattle.ec_brick.specs.Fit.{IsFitReply}
 use Rattle.ec_brick.specs.Inner.{IsHeadOf, IsReady, is_refusal, subject_of}
 use Rattle.ec_brick.specs.Meets.{is_fault}
-use Rattle.ec_brick.specs.Rows.{other_kind, refusal, row_of, same_kind}
+use Rattle.ec_brick.specs.Rows.{other_kind, refusal, row_of}
 use Rattle.ec_brick.specs.declared.row.Check.TheVariants.{Present, At, OfKind, Content, Absent, Fresh}
 use Rattle.ec_brick.specs.declared.row.Row.{Row}
+use Rattle.ec_attr.specs.GoodGroup.{same_kind}
 
 pub row_subject : (q : Request) (r : Row) → row_of q ≡ Some r → r.subject.0 ≡ subject_of q
 row_subject (Ask g d k) r e = cc

@@ -11,9 +11,10 @@ use Rattle.ec_wire.specs.declared.request.Request.{Request}
 use Rattle.ec_wire.specs.declared.request.Request.TheVariants.{Ask, Release, Query, PreOp, ReadChunks, WriteChunks, SetLength, PostOp, Clear, NameGet, NamesAfter, NameSet, NamesPut, Make, Made, Unmake, Mark, Unmark, GfidsAfter}
 use Rattle.ec_brick.specs.Known.{AreKnown, IsKnown, IsKnownAt}
 use Rattle.ec_brick.specs.Replies.{Is, Replies, RepliesChunks, Says, ShowsChunks, ShowsGfids, ShowsNames, gfids_of, of_record, own_of}
-use Rattle.ec_brick.specs.Work.{broken_of, bytes_of, committed, new_head, unmarked, unset, unset_at, with_dirty, with_head_by, with_unset, work_of}
+use Rattle.ec_brick.specs.Work.{broken_of, bytes_of, committed, new_head, unmarked, unset, unset_at, with_head_by, with_unset, work_of}
 use Rattle.ec_brick.proofs.Known.{changed_known, put_known, reach_most, same_dirty}
 use Rattle.ec_brick.proofs.Sets.{same_set}
+use Rattle.ec_attr.specs.Head.{with_dirty}
 
 -- the same change of two records
 both : (m r : Records) (g : ℕ) (f : Record → Record) → ((a b : Record) → IsKnown a b → IsKnown (f a) (f b)) → AreKnown m r → AreKnown (changed m g f) (changed r g f)

@@ -24,7 +24,8 @@ use Rattle.ec_brick.specs.State.{State}
 use Rattle.ec_brick.specs.Step.{Before, Failing, Fine, by_row, part_work}
 use Rattle.ec_brick.specs.declared.row.Row.{Row}
 use Rattle.ec_brick.specs.Rows.{row_of}
-use Rattle.ec_brick.specs.Work.{broken_of, bytes_of, committed, new_head, unmarked, with_dirty, work_of}
+use Rattle.ec_brick.specs.Work.{broken_of, bytes_of, committed, new_head, unmarked, work_of}
+use Rattle.ec_attr.specs.Head.{with_dirty}
 
 -- a refusal by the fence or the head
 abbrev pub is_refusal : Reply → Bool

@@ -1,5 +1,6 @@
 -- The table's rows: which grant a request needs, whose head is read, and why that refuses it.
 use Rattle.std.specs.Prelude.{ℕ, Bool, true, false, not, cond, ◌==◌, ◌&&◌, ◌||◌, Option, Some, None, List}
+use Rattle.ec_attr.specs.GoodGroup.{same_kind}
 use Rattle.ec_attr.specs.Marks.{is_marked, stripped}
 use Rattle.ec_attr.specs.declared.gfid.Gfid.{Gfid}
 use Rattle.ec_attr.specs.declared.head.Head.{Head}
@@ -68,12 +69,6 @@ heal_fence asks g (Some n) = cond (holds asks n g Heal Exclusive) None (Some (No
 -- the fence: a request is refused whose grant, or then whose Heal grant, the lock table doesn't hold
 abbrev pub fence : List Asking → Row → Option Reply
 fence asks r = cond (meets r.need asks r.grant r.gfid) (heal_fence asks r.gfid r.heal) (Some (NoGrant r.grant))
-
-abbrev pub same_kind : Kind → Kind → Bool
-same_kind File File = true
-same_kind File Dir = false
-same_kind Dir File = false
-same_kind Dir Dir = true
 
 abbrev pub other_kind : Kind → Head → Option Reply
 other_kind k h = cond (same_kind h.kind k) None (Some OtherKind)

@@ -1,7 +1,7 @@
 -- The table's other columns: what a request does to the records, and what a store leaves that fails in it.
 use Rattle.std.specs.Prelude.{ℕ, ◌+◌, ◌*◌, Bool, true, cond, ◌&&◌, nat_lt, nat_le, Option, None, unwrap_or, List, length}
 use Rattle.std.specs.List.{flat_map}
-use Rattle.ec_attr.specs.Head.{new_attr}
+use Rattle.ec_attr.specs.Head.{new_attr, with_dirty, with_version}
 use Rattle.ec_attr.specs.Marks.{stripped}
 use Rattle.ec_attr.specs.declared.attr.Attr.{Attr}
 use Rattle.ec_attr.specs.declared.config.Config.{Config}
@@ -15,12 +15,6 @@ use Rattle.ec_wire.specs.declared.request.Request.TheVariants.{Ask, Release, Que
 -- with another head, where there is a record
 abbrev pub with_head_by : Records → ℕ → (Head → Head) → Records
 with_head_by m g f = changed m g (λ r. record r { head = f r.head })
-
-abbrev pub with_dirty : ℕ → Head → Head
-with_dirty dirty h = record h { dirty = record h.dirty { content = dirty } }
-
-abbrev pub with_version : ℕ → Head → Head
-with_version version h = record h { version = record h.version { content = version } }
 
 -- at a new version and size, with dirty 1
 abbrev pub committed : ℕ → ℕ → Option Attr → Head → Head

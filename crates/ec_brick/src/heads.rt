@@ -2,7 +2,8 @@
 ghost use Rattle.std.specs.Prelude.{◌≡◌};
 ghost use Rattle.ec_brick.specs.Index.{is_dirty};
 ghost use Rattle.ec_brick.specs.Inner.{head_after};
-ghost use Rattle.ec_brick.specs.Work.{committed, new_head, unmarked, with_dirty};
+ghost use Rattle.ec_brick.specs.Work.{committed, new_head, unmarked};
+ghost use Rattle.ec_attr.specs.Head.{with_dirty};
 
 use ec_attr::{Attr, Config, Dirty, Head, Kind, Version, stripped};
 use ec_wire::Request;

@@ -19,9 +19,10 @@ use Rattle.ec_conduct.specs.Changes.{same_child, stripes_of}
 use Rattle.ec_conduct.specs.Data.{Decodes}
 use Rattle.ec_conduct.specs.Done.{chunk_of, did, history, is_mark, is_query, is_trim, is_unmark, last_done, reply_to, tried}
 use Rattle.ec_conduct.specs.Given.{bricks_of, quorum_of}
-use Rattle.ec_conduct.specs.Group.{has, with_version}
+use Rattle.ec_conduct.specs.Group.{has}
 use Rattle.ec_conduct.specs.Locks.{follows}
 use Rattle.ec_conduct.specs.Standing.{Every, NoneWaits, Quorum, group_of, holds, is_grouped, is_held, keeps_mark}
+use Rattle.ec_attr.specs.Head.{with_version}
 
 -- a brick answered with a head, or that it has none
 abbrev pub gives_head : Option Reply → Bool

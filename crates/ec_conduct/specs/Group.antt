@@ -3,6 +3,7 @@ use Rattle.std.specs.Prelude.{ℕ, Bool, false, nat_le, Option, Some, None, List
 use Rattle.std.specs.Option.{option_map}
 use Rattle.ec_attr.specs.Bricks.{bricks_below, count_below}
 use Rattle.ec_attr.specs.GoodGroup.{alike, greatest_dirty, is_sink as is_sink_beside}
+use Rattle.ec_attr.specs.Head.{with_dirty}
 use Rattle.ec_attr.specs.declared.head.Head.{Head}
 
 -- whether there is a value, and it passes the test
@@ -20,12 +21,6 @@ is_good n k heads b = nat_le k (count_below n (alike heads b))
 
 abbrev pub good_group : ℕ → ℕ → Heads → List ℕ
 good_group n k heads = bricks_below n (is_good n k heads)
-
-abbrev pub with_dirty : ℕ → Head → Head
-with_dirty dirty h = record h { dirty = record h.dirty { content = dirty } }
-
-abbrev pub with_version : ℕ → Head → Head
-with_version version h = record h { version = record h.version { content = version } }
 
 abbrev pub first_head : Heads → List ℕ → Option Head
 first_head heads [] = None

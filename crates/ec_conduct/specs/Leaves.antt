@@ -13,9 +13,9 @@ use Rattle.ec_conduct.specs.Account.{Account, Exchange, at}
 use Rattle.ec_conduct.specs.Data.{changes_data}
 use Rattle.ec_conduct.specs.Done.{chunk_of, did, is_answered, is_any, is_clear, is_post, is_post_to, last_done, or_else}
 use Rattle.ec_conduct.specs.Given.{CachedStripe, bricks_of, quorum_of}
-use Rattle.ec_conduct.specs.Group.{with_dirty, with_version}
 use Rattle.ec_conduct.specs.Standing.{Quorum, group_of, holds, is_member, is_sink_of, waits_on}
 use Rattle.ec_conduct.specs.declared.kept.Kept.{Kept}
+use Rattle.ec_attr.specs.Head.{with_dirty, with_version}
 
 abbrev pub is_kept : Kept → ℕ → Bool
 is_kept kept x = is_in kept.bricks x || is_in kept.sinks x

@@ -1,5 +1,5 @@
 -- Each call's own entries in a log, and the conduct of all calls.
-use Rattle.std.specs.Prelude.{◌≡◌, ℕ, Bool, true, false, not, cond, ◌==◌, ◌&&◌, Option, Some, None, List, [], ◌∷◌, ◌++◌}
+use Rattle.std.specs.Prelude.{◌≡◌, ℕ, Bool, true, false, not, cond, ◌==◌, ◌&&◌, is_some, Option, Some, None, List, [], ◌∷◌, ◌++◌}
 use Rattle.ec_attr.specs.declared.geometry.Geometry.{Geometry}
 use Rattle.ec_store.specs.Put.{put}
 use Rattle.ec_wire.specs.declared.answer.Answer.{Answer}
@@ -10,11 +10,11 @@ use Rattle.ec_wire.specs.declared.message.Body.{Body}
 use Rattle.ec_wire.specs.declared.message.Body.TheVariants.{ToBrick, ToClient}
 use Rattle.ec_wire.specs.declared.message.Message.{Message}
 use Rattle.ec_wire.specs.declared.op.Op.{Op}
-use Rattle.ec_wire.specs.declared.op.Op.TheVariants.{Write, Truncate, Read, Stat}
+use Rattle.ec_wire.specs.declared.op.Op.TheVariants.{Write}
 use Rattle.ec_wire.specs.declared.request.Request.{Request}
 use Rattle.ec_wire.specs.declared.request.Request.TheVariants.{Release}
 use Rattle.ec_conduct.specs.Conduct.{Keeps}
-use Rattle.ec_conduct.specs.Given.{CachedStripe, Given}
+use Rattle.ec_conduct.specs.Given.{CachedStripe, Given, is_on_file}
 use Rattle.ec_conduct.specs.Leaves.{KeepsCache, KeepsGrants}
 use Rattle.ec_conduct.specs.Opened.{account}
 use Rattle.ec_conduct.specs.Own.{Own, Sends, Hears, GivesUp, Answers}
@@ -39,20 +39,10 @@ pub record Books : Type 0 where
 abbrev pub no_books : Books
 no_books = record { own = λ a. []; given = λ a. None; running = λ c. None; kept = λ c. None; cache = λ c. [] }
 
-abbrev pub is_of : Kept → ℕ → Bool
-is_of kept g = kept.gfid.0 == g
-
--- whether a call goes on under grants that are kept
-abbrev pub goes_on_under : Kept → Op → Bool
-goes_on_under kept (Write g off bytes) = is_of kept g.0
-goes_on_under kept (Truncate g size) = is_of kept g.0
-goes_on_under kept (Read g off count via) = is_of kept g.0
-goes_on_under kept (Stat g) = is_of kept g.0
-goes_on_under kept op = false
-
+-- a call on the content of a file goes on under the grants that are kept of it
 abbrev pub taken_over : Option Kept → Op → Option Kept
 taken_over None op = None
-taken_over (Some kept) op = cond (goes_on_under kept op) (Some kept) None
+taken_over (Some kept) op = cond (is_on_file op kept.gfid.0) (Some kept) None
 
 -- only writes have to do with cached stripes
 abbrev pub is_write : Op → Bool
@@ -68,13 +58,9 @@ begins geometry t books a client op = record books { given = put books.given a (
 abbrev pub with_own : Books → ℕ → Own → Books
 with_own books a e = record books { own = put books.own a (books.own a ++ e ∷ []) }
 
-abbrev pub is_some_kept : Option Kept → Bool
-is_some_kept None = false
-is_some_kept (Some kept) = true
-
 abbrev pub has_kept : Option Given → Bool
 has_kept None = false
-has_kept (Some given) = is_some_kept given.kept
+has_kept (Some given) = is_some given.kept
 
 -- the call that runs where it began under kept grants
 abbrev pub under_kept : Books → Option ℕ → Option ℕ

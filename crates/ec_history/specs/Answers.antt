@@ -11,7 +11,8 @@ use Rattle.ec_attr.specs.declared.kind.Kind.{Kind}
 use Rattle.ec_attr.specs.declared.kind.Kind.TheVariants.{File, Dir}
 use Rattle.ec_field.specs.Code.{IsStripe}
 use Rattle.ec_stripe.specs.Span.{stripe_bytes}
-use Rattle.ec_store.specs.Records.{Record, is_past}
+use Rattle.ec_store.specs.Pages.{is_rising}
+use Rattle.ec_store.specs.Records.{Record}
 use Rattle.ec_wire.specs.declared.answer.Answer.{Answer}
 use Rattle.ec_wire.specs.declared.answer.Answer.TheVariants.{Size, Bytes, Child, Gone, Names, Healed, Nothing, NoSuch, IsDir, NotDir, NoName, Exists, Split, TooLong, TooBig, Limit, Spent, Attr, NotEmpty, Scrubbed, Settled, Left, Swept}
 use Rattle.ec_wire.specs.declared.op.Op.{Op}
@@ -69,11 +70,6 @@ pub record ReadsFlat (g : Geometry) (copies : Copies) (flat : Flat) (off count :
 abbrev pub listed : Option Leaf → Option (Option Leaf)
 listed None = None
 listed (Some c) = Some (Some c)
-
--- each name is past the one before it
-abbrev pub is_rising : Option (List ℕ) → List (List ℕ × Option Leaf) → Bool
-is_rising after [] = true
-is_rising after (e ∷ es) = is_past after e.0 && is_rising (Some e.0) es
 
 -- In the order of names, every closed name with what it leads to. An open one is listed as open, or as if it had a value
 -- that a brick of the good group has there.

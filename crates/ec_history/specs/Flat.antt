@@ -1,5 +1,5 @@
 -- The flat file: what a volume promises of a file or a directory, as the commits of a run make it.
-use Rattle.std.specs.Prelude.{ℕ, ◌/◌, Bool, true, false, cond, ◌==◌, Option, Some, None, List}
+use Rattle.std.specs.Prelude.{ℕ, ◌/◌, Bool, true, false, cond, ◌==◌, is_some, Option, Some, None, List}
 use Rattle.std.specs.Option.{unwrap_or}
 use Rattle.std.specs.Map.{lookup}
 use Rattle.std.specs.Cmp.Lexicographic.{slice_cmp}
@@ -94,11 +94,6 @@ carried None false old = None
 abbrev pub named : List (List ℕ × Option Child) → List ℕ → Option (Option Child)
 named names n = lookup (is_at (slice_cmp nat_cmp n)) names
 
--- whether it says something, and what it says or else this
-abbrev pub is_given : {T : Type 0} → Option T → Bool
-is_given None = false
-is_given (Some x) = true
-
 -- The commit of call a at a version: it closes what it covers and the names that it sets.
 abbrev pub committed : ℕ → ℕ → ℕ → Change → Flat → Flat
 committed k a version change flat = record flat {
@@ -108,7 +103,7 @@ committed k a version change flat = record flat {
   byte = λ p. cond (change.covers (stripe_of k p)) (carried (change.sets p) (is_open_to_it_alone a (flat.opener (stripe_of k p))) (flat.byte p)) (flat.byte p);
   opener = λ s. cond (change.covers s) Nobody (flat.opener s);
   child = λ n. unwrap_or (named change.names n) (flat.child n);
-  is_name_open = λ n. cond (is_given (named change.names n)) false (flat.is_name_open n);
+  is_name_open = λ n. cond (is_some (named change.names n)) false (flat.is_name_open n);
 }
 
 -- Call a opens the stripes that pass the test.

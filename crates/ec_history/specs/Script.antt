@@ -3,6 +3,7 @@ use Rattle.std.specs.Prelude.{◌≡◌, ℕ, ◌<◌, Bool, true, false, Some, 
 use Rattle.std.specs.List.{flat_map, list_all}
 use Rattle.ec_attr.specs.Bricks.{bricks_below}
 use Rattle.ec_locks.specs.Table.{queued, waited}
+use Rattle.ec_wire.specs.Lanes.{is_to_brick}
 use Rattle.ec_wire.specs.declared.entry.Entry.{Entry}
 use Rattle.ec_wire.specs.declared.entry.Entry.TheVariants.{Called, Sent, Executed, Heard, Lost, GivenUp, Stopped, Returned, Cut as CutOff, Died, Yielded, Torn, Answered, Replaced}
 use Rattle.ec_wire.specs.declared.event.Event.{Event}
@@ -36,10 +37,6 @@ AllFollow s = list_all is_of_course s.follow ≡ true
 pub record IsLeast (holds : ℕ → Type 0) (i : ℕ) : Type 0 where
   pub itself : holds i
   pub least : (j : ℕ) → j < i → holds j → ⊥
-
-abbrev pub is_to_brick : Body → Bool
-is_to_brick (AskBody q) = true
-is_to_brick (ReplyBody re reply) = false
 
 -- a message in flight between a client and a brick, to the brick or from it
 pub record FliesBetween (m : Net) (client brick : ℕ) (to_brick : Bool) (i : ℕ) : Type 0 where

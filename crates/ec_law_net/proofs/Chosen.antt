@@ -9,10 +9,11 @@ use Rattle.ec_attr.specs.Bricks.{bricks_below, count_below}
 use Rattle.ec_attr.specs.GoodGroup.{agree, agrees_with, alike, alike_heads, greatest_dirty, has_mark}
 use Rattle.ec_attr.specs.Marks.{is_marked, stripped}
 use Rattle.ec_attr.specs.declared.head.Head.{Head}
-use Rattle.ec_conduct.specs.Group.{Heads, first_head, good_group, is_good, with_dirty}
+use Rattle.ec_conduct.specs.Group.{Heads, first_head, good_group, is_good}
 use Rattle.ec_law_ballots.specs.Words.{at_base}
 use Rattle.ec_law_net.specs.Chosen.{GroupIsQuorum}
 use Rattle.ec_law_net.specs.Start.{seen_head}
+use Rattle.ec_attr.specs.Head.{with_dirty}
 
 -- the first brick of a list that has one is of the set
 first_in : (n : ℕ) (p : ℕ → Bool) (heads : Heads) (h : Head) → first_head heads (bricks_below n p) ≡ Some h → (b : ℕ) × (b < n) × (p b ≡ true) × (heads b ≡ Some h)

@@ -10,7 +10,8 @@ use Rattle.ec_law_ballots.specs.Act.Act.{Pre, Sink_pre, Post, Sink_post, Clear a
 use Rattle.ec_law_ballots.specs.Guard.{May, IsMarkedAt, IsPlainAt}
 use Rattle.ec_law_net.specs.Turns.{View}
 use Rattle.ec_law_net.specs.Link.{IsHead, IsQuery, IsPreOp, IsPostOp, IsClear, PreReady, PostReady}
-use Rattle.ec_brick.specs.Work.{committed, unmarked, with_dirty}
+use Rattle.ec_brick.specs.Work.{committed, unmarked}
+use Rattle.ec_attr.specs.Head.{with_dirty}
 
 -- one act that may come, after which brick b has this head and all else stands
 pub record Did (n k : ℕ) (e : Act) (s : State) (b : ℕ) (now : Option Head) (gone : Bool) : Type 0 where

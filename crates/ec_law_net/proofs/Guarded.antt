@@ -16,7 +16,7 @@ use Rattle.ec_wire.specs.declared.request.Request.{Request}
 use Rattle.ec_wire.specs.declared.request.Request.TheVariants.{Ask, Release, Query, PreOp, ReadChunks, WriteChunks, SetLength, PostOp, Clear, NameGet, NamesAfter, NameSet, NamesPut, Make, Made, Unmake, Mark, Unmark, GfidsAfter}
 use Rattle.ec_brick.specs.State.{State as Brick}
 use Rattle.ec_brick.specs.Step.{Failing, Out, by_row, work}
-use Rattle.ec_brick.specs.Work.{bytes_of, new_head, with_dirty}
+use Rattle.ec_brick.specs.Work.{bytes_of, new_head}
 use Rattle.ec_brick.specs.declared.row.Row.{Row}
 use Rattle.ec_brick.specs.declared.row.Need.TheVariants.{Reading, Writing, Healing, Either}
 use Rattle.ec_brick.specs.declared.row.Check.TheVariants.{Present, OfKind, Content, Absent, Fresh}
@@ -32,6 +32,7 @@ use Rattle.ec_brick.specs.declared.row.Need.{Need}
 use Rattle.ec_brick.specs.declared.row.Check.{Check}
 use Rattle.ec_store.specs.Records.{replaced}
 use Rattle.ec_law_net.proofs.Requests.{on_pre, on_post, on_clear, on_mark, on_unmark, Works, absent, fresh}
+use Rattle.ec_attr.specs.Head.{with_dirty}
 
 abbrev of_child : Gfid → ℕ → Gfid → Check → Row
 of_child x i child check = record { gfid = x; grant = i; need = Writing; heal = None; subject = child; check = check }

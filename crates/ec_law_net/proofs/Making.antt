@@ -8,9 +8,10 @@ use Rattle.ec_law_net.specs.Turns.{View}
 use Rattle.ec_law_net.specs.Link.{IsHead, IsMark, IsUnmark, IsMake, IsMade}
 use Rattle.ec_attr.specs.declared.config.Config.{Config}
 use Rattle.ec_attr.specs.declared.kind.Kind.{Kind}
-use Rattle.ec_brick.specs.Work.{new_head, unmarked, with_dirty}
+use Rattle.ec_brick.specs.Work.{new_head, unmarked}
 use Rattle.ec_history.specs.Run.{Net, call_of}
 use Rattle.ec_law_net.proofs.Doing.{Did}
+use Rattle.ec_attr.specs.Head.{with_dirty}
 
 marked_by : (t : Bool) (y : ℕ) → is_marked y ≡ t → is_marked (cond t (y - 2 ^ 62) y) ≡ false
 marked_by true y e = unmarks

@@ -14,7 +14,7 @@ use Rattle.ec_wire.specs.declared.reply.Reply.TheVariants.{Fault, NoGrant}
 use Rattle.ec_wire.specs.declared.request.Request.{Request}
 use Rattle.ec_wire.specs.declared.request.Request.TheVariants.{Ask, Release, Query, PreOp, ReadChunks, WriteChunks, SetLength, PostOp, Clear, NameGet, NamesAfter, NameSet, NamesPut, Make, Made, Unmake, Mark, Unmark, GfidsAfter}
 use Rattle.ec_brick.specs.Replies.{Is, own_of}
-use Rattle.ec_brick.specs.Rows.{fence, heal_fence, is_writers, meets, other_kind, refusal, same_kind}
+use Rattle.ec_brick.specs.Rows.{fence, heal_fence, is_writers, meets, other_kind, refusal}
 use Rattle.ec_brick.specs.State.{State as Brick}
 use Rattle.ec_brick.specs.Step.{Failing, Fine, Before, Within, Out, fenced, head_read, judged, refusal_of, version_of, work, worked}
 use Rattle.ec_brick.specs.Work.{broken_of, bytes_of, with_unset}
@@ -22,6 +22,7 @@ use Rattle.ec_brick.specs.declared.row.Row.{Row}
 use Rattle.ec_brick.specs.declared.row.Check.{Check}
 use Rattle.ec_brick.specs.declared.row.Check.TheVariants.{Present, At, OfKind, Content, Absent, Fresh, Markable}
 use Rattle.ec_history.specs.Story.{is_done}
+use Rattle.ec_attr.specs.GoodGroup.{same_kind}
 
 -- no refusal says Done
 abbrev pub NotDone : Option Reply → Type 0

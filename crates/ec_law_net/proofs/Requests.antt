@@ -20,10 +20,10 @@ use Rattle.ec_wire.specs.declared.reply.Reply.{Reply}
 use Rattle.ec_wire.specs.declared.reply.Reply.TheVariants.{IsInode, NoGrant, NotAt, OtherKind}
 use Rattle.ec_wire.specs.declared.request.Request.{Request}
 use Rattle.ec_wire.specs.declared.request.Request.TheVariants.{PreOp, PostOp, Clear, Mark, Unmark}
-use Rattle.ec_brick.specs.Rows.{fence, heal_fence, meets, refusal, row_of, same_kind}
+use Rattle.ec_brick.specs.Rows.{fence, heal_fence, meets, refusal, row_of}
 use Rattle.ec_brick.specs.State.{State as Brick}
 use Rattle.ec_brick.specs.Step.{Failing, by_row, work}
-use Rattle.ec_brick.specs.Work.{committed, unmarked, with_dirty}
+use Rattle.ec_brick.specs.Work.{committed, unmarked}
 use Rattle.ec_brick.specs.declared.row.Row.{Row}
 use Rattle.ec_brick.specs.declared.row.Need.TheVariants.{Writing, Healing}
 use Rattle.ec_brick.specs.declared.row.Check.TheVariants.{At, Absent, Fresh, Markable}
@@ -35,6 +35,8 @@ use Rattle.ec_law_net.proofs.Locks.{held}
 use Rattle.ec_law_net.proofs.Making.{mark, unmark}
 use Rattle.ec_law_net.proofs.Outcomes.{IsDone, outcome}
 use Rattle.ec_law_net.proofs.Worked.{Worked, doer, head_apart, head_here, head_put, worked_by}
+use Rattle.ec_attr.specs.GoodGroup.{same_kind}
+use Rattle.ec_attr.specs.Head.{with_dirty}
 
 if_none : (t : Bool) (o : Option Reply) (y : Reply) → cond t o (Some y) ≡ None → (t ≡ true) × (o ≡ None)
 if_none true o y e = (refl, e)

@@ -10,7 +10,7 @@ abbrev pub Page : Type 0
 Page = List (List ℕ × Child)
 
 -- each name is past the one before it, the first past `after`
-abbrev pub is_rising : Option (List ℕ) → Page → Bool
+abbrev pub is_rising : {T : Type 0} → Option (List ℕ) → List (List ℕ × T) → Bool
 is_rising after [] = true
 is_rising after (e ∷ es) = is_past after e.0 && is_rising (Some e.0) es
 

@@ -14,7 +14,7 @@ use Rattle.ec_attr.specs.declared.head.Head.{Head}
 use Rattle.ec_conduct.specs.Account.{Account, at}
 use Rattle.ec_conduct.specs.Done.{is_query, reply_to}
 use Rattle.ec_conduct.specs.Given.{bricks_of, quorum_of}
-use Rattle.ec_conduct.specs.Group.{Heads, first_head, good_group, group_head, is_good, is_sink, with_dirty}
+use Rattle.ec_conduct.specs.Group.{Heads, first_head, good_group, group_head, is_good, is_sink}
 use Rattle.ec_conduct.specs.Standing.{head_of, heads_at}
 use Rattle.ec_conduct.proofs.Groups.{whole_group}
 use Rattle.ec_wire.specs.declared.reply.Reply.{Reply}
@@ -22,6 +22,7 @@ use Rattle.ec_wire.specs.declared.reply.Reply.TheVariants.{Granted, Head as Head
 use Rattle.ec_txn.specs.Ballot.{IsGroupAt}
 use Rattle.ec_txn.specs.Digest.{given_by}
 use Rattle.ec_txn.specs.Opening.{ComesTo}
+use Rattle.ec_attr.specs.Head.{with_dirty}
 
 head_same : (o : Option Reply) → head_in (given_by o) ≡ head_of o
 head_same None = refl

@@ -1,6 +1,7 @@
 -- The phase `read`: K bricks of a set are asked for chunks, and one more for each that failed.
 use Rattle.std.specs.Prelude.{◌≡◌, ℕ, ◌+◌, ◌-◌, ◌%◌, ◌<◌, ◌≤◌, ◌^◌, Bool, true, false, not, cond, ◌==◌, ◌&&◌, ◌||◌, nat_lt, is_some, Option, Some, None}
 use Rattle.ec_attr.specs.Bricks.{count_below, is_in}
+use Rattle.ec_answers.specs.Choice.{up_from}
 use Rattle.ec_conduct.specs.Account.{Account, Lock, at}
 use Rattle.ec_conduct.specs.Given.{Given, bricks_of, quorum_of}
 use Rattle.ec_wire.specs.declared.reply.Reply.{Reply}
@@ -48,8 +49,6 @@ abbrev pub count_wanted : ℕ → Reading → (ℕ → Place) → (ℕ → Optio
 count_wanted k r ps rs = k - count_below 31 (is_counted r ps rs)
 
 -- the brick i steps up from another one, and on from 0 past the last
-abbrev pub up_from : ℕ → ℕ → ℕ
-up_from start i = (start + i) % 31
 
 -- how many bricks of a set come before one, walking up from `start`
 abbrev pub count_before : ℕ → (ℕ → Bool) → ℕ → ℕ

@@ -13,10 +13,10 @@ use Rattle.ec_cluster.specs.declared.cluster.Cluster.{Cluster}
 use Rattle.ec_conduct.specs.Given.{Given}
 use Rattle.ec_conduct.specs.Own.{Own}
 use Rattle.ec_history.specs.Run.{Net}
-use Rattle.ec_history.specs.Script.{FliesBetween, IsLeast, IsNamed, Names, is_to_brick}
+use Rattle.ec_history.specs.Script.{FliesBetween, IsLeast, IsNamed, Names}
 use Rattle.ec_store.specs.Records.{Records}
 use Rattle.ec_txn.specs.declared.ctx.Ctx.{Ctx}
-use Rattle.ec_wire.specs.Lanes.{goes_between, is_going, is_to_brick as goes_to_brick}
+use Rattle.ec_wire.specs.Lanes.{goes_between, is_going, is_to_brick}
 use Rattle.ec_wire.specs.Places.{IsLowest}
 use Rattle.ec_wire.specs.declared.entry.Entry.{Entry}
 use Rattle.ec_wire.specs.declared.event.Event.TheVariants.{Deliver, GiveUp, Lose, Tear}
@@ -52,18 +52,14 @@ is_beq false false e = refl
 is_beq true false e = absurd (cc)
 is_beq false true e = absurd (cc)
 
-way_is : (y : Body) → is_to_brick y ≡ goes_to_brick y
-way_is (ToBrick q) = refl
-way_is (ToClient re reply) = refl
-
 going_is : (client b : ℕ) (way : Bool) (m : Message) → goes_between client b way m ≡ true → (m.client ≡ client) × (m.brick ≡ b) × (is_to_brick m.body ≡ way)
 going_is client b way m e =
-    let f : ((m.client == client) && (m.brick == b)) ≡ true = both_left ((m.client == client) && (m.brick == b)) (beq (goes_to_brick m.body) way) e in
-    let g : beq (goes_to_brick m.body) way ≡ true = both_right ((m.client == client) && (m.brick == b)) (beq (goes_to_brick m.body) way) e in
-    (eqb-true m.client client (both_left (m.client == client) (m.brick == b) f), eqb-true m.brick b (both_right (m.client == client) (m.brick == b) f), way_is m.body ∙ beq_is (goes_to_brick m.body) way g)
+    let f : ((m.client == client) && (m.brick == b)) ≡ true = both_left ((m.client == client) && (m.brick == b)) (beq (is_to_brick m.body) way) e in
+    let g : beq (is_to_brick m.body) way ≡ true = both_right ((m.client == client) && (m.brick == b)) (beq (is_to_brick m.body) way) e in
+    (eqb-true m.client client (both_left (m.client == client) (m.brick == b) f), eqb-true m.brick b (both_right (m.client == client) (m.brick == b) f), beq_is (is_to_brick m.body) way g)
 
 is_going_so : (client b : ℕ) (way : Bool) (m : Message) → m.client ≡ client → m.brick ≡ b → is_to_brick m.body ≡ way → goes_between client b way m ≡ true
-is_going_so client b way m x y z = both ((m.client == client) && (m.brick == b)) (beq (goes_to_brick m.body) way) (both (m.client == client) (m.brick == b) (eq-eqb m.client client x) (eq-eqb m.brick b y)) (is_beq (goes_to_brick m.body) way (sym (way_is m.body) ∙ z))
+is_going_so client b way m x y z = both ((m.client == client) && (m.brick == b)) (beq (is_to_brick m.body) way) (both (m.client == client) (m.brick == b) (eq-eqb m.client client x) (eq-eqb m.brick b y)) (is_beq (is_to_brick m.body) way z)
 
 module _ {C : Type 0} (stands : Ctx → Given → C → List Own → Type 0) (by_table : Ctx → Given → List Own → Type 0) (s : Cluster) (c : Clients C) (before : List Records) (p : Come) (sound : IsSound s) (h : Sees stands by_table s c p) (m : Matches s before p.net) where
   pub said_now : (i : ℕ) (msg : Message) → flight s i ≡ Some msg → p.net.said i ≡ Some msg

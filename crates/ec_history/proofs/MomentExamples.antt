@@ -5,4 +5,4 @@ use Rattle.ec_history.specs.MomentExamples.{MomentOfCalls}
 
 pub moment_of_calls : MomentOfCalls
 unfolding Bricks.count_below
-moment_of_calls = record { last_granted = refl; asks_nobody = refl; asks = refl }
+moment_of_calls = record { last_granted = refl; asks_nobody = refl; asks = refl; since_read = refl; before_moment = refl }

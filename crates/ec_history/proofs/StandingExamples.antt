@@ -1,9 +1,10 @@
 -- Records that stand for no flat file, and the record of a sink.
-use Rattle.std.proofs.Common.{◌≡◌, inr, ℕ, ◌*◌, ◌<◌, ◌≤◌, refl, lit≤, arith, [], ◌∷◌, Some, None}
+use Rattle.std.proofs.Common.{◌≡◌, inl, inr, ℕ, zero, suc, ◌+◌, ◌*◌, ◌<◌, ◌≤◌, false, true, refl, lit≤, arith, [], ◌∷◌, Some, None}
 use Rattle.ec_attr.specs.Bricks as Bricks
 use Rattle.ec_attr.specs.declared.kind.Kind.TheVariants.{File, Dir}
-use Rattle.ec_history.specs.Reference.{HasGroupsStripe}
-use Rattle.ec_history.specs.StandingExamples.{Beginnings, Healed, NotStanding, config, disturbed, heal_of}
+use Rattle.ec_history.specs.Flat.{is_open}
+use Rattle.ec_history.specs.Reference.{HasGroupsStripe, IsUnsettled}
+use Rattle.ec_history.specs.StandingExamples.{Beginnings, Healed, HealedOpen, NotStanding, behind, config, disturbed, heal_of, of_open}
 
 different : (a b : ℕ) → (a < b) → a ≡ b → ⊥
 different a b l e = absurd (omega (arith, l, e))
@@ -44,6 +45,32 @@ healed = record {
   other_dirty = λ r. different 0 1 (lit≤ tt) r.dirty;
   whole = λ r. let h : HasGroupsStripe config.geometry (heal_of 0) 2 disturbed 0 = r.closed 0 refl refl in no_byte _ (h.1.piece.bytes 0 (lit≤ tt));
 }
+
+none_read : 2 ≤ Bricks.count_below 3 (λ c. false) → ⊥
+unfolding Bricks.count_below
+none_read l = absurd (omega (arith, l))
+
+pub healed_open : HealedOpen
+healed_open = record {
+  overtaken = record {
+    heads = record { kind = refl; of_volume = refl; size = refl; attr = refl };
+    version = refl;
+    dirty = refl;
+    closed = closed;
+    opened = λ s o f l. absurd (cc);
+    end = record { length = 512; of_size = record { stripes = 1; hold = record { enough = lit≤ tt; least = λ fewer l. omega (arith, l) }; chunks = refl }; earlier = earlier; later = λ l. absurd (omega (arith, l)) };
+    names = λ n o f. absurd (cc);
+  };
+  not_overtaken = λ r. none_read (r.opened 0 refl refl (lit≤ tt)).enough;
+  made_since = record { kind = refl; of_volume = refl; size = refl; attr = refl };
+} where
+  closed : (s : ℕ) → is_open ((of_open true).flat.opener s) ≡ false → (of_open true).stirred s ≡ false → HasGroupsStripe config.geometry (of_open true) 2 behind s
+  closed zero o f = absurd (cc)
+  closed (suc s) o f = absurd (cc)
+
+  earlier : (s : ℕ) → behind.shortest < 512 * (s + 1) → 512 * (s + 1) ≤ 512 → IsUnsettled (of_open true) s
+  earlier zero l m = inl refl
+  earlier (suc s) l m = inr refl
 
 pub beginnings : Beginnings
 unfolding Bricks.count_below

@@ -1,21 +1,21 @@
 -- Worked examples of moments: which version of the flat file a call is answered by.
-use Rattle.std.specs.Prelude.{◌≡◌, ℕ, None, List, [], ◌∷◌, ◌++◌}
+use Rattle.std.specs.Prelude.{◌≡◌, ℕ, false, true, None, List, [], ◌∷◌, ◌++◌}
 use Rattle.ec_attr.specs.declared.kind.Domain.TheVariants.{Inode}
 use Rattle.ec_attr.specs.declared.kind.Kind.TheVariants.{File}
-use Rattle.ec_attr.specs.declared.kind.LockKind.TheVariants.{Shared}
+use Rattle.ec_attr.specs.declared.kind.LockKind.TheVariants.{Exclusive, Shared}
 use Rattle.ec_locks.specs.declared.ask.Ask.{Ask as Asking}
 use Rattle.ec_store.specs.Put.{put}
 use Rattle.ec_wire.specs.declared.entry.Entry.{Entry}
 use Rattle.ec_wire.specs.declared.entry.Entry.TheVariants.{Called, Heard, Sent}
 use Rattle.ec_wire.specs.declared.message.Body.TheVariants.{ToClient}
-use Rattle.ec_wire.specs.declared.op.Op.TheVariants.{Stat, Write}
-use Rattle.ec_wire.specs.declared.reply.Reply.TheVariants.{Granted}
-use Rattle.ec_wire.specs.declared.request.Request.TheVariants.{Ask, PostOp, Query, Release}
+use Rattle.ec_wire.specs.declared.op.Op.TheVariants.{Heal, Stat, Write}
+use Rattle.ec_wire.specs.declared.reply.Reply.TheVariants.{Chunks, Granted}
+use Rattle.ec_wire.specs.declared.request.Request.TheVariants.{Ask, PostOp, Query, ReadChunks, Release, WriteChunks}
 use Rattle.ec_brick.specs.State.{State}
 use Rattle.ec_conduct.specs.Examples.{three}
 use Rattle.ec_history.specs.Examples.{alike, cut_off}
 use Rattle.ec_history.specs.Flat.{blank}
-use Rattle.ec_history.specs.Moments.{Past, moment_of, no_moments, now, past}
+use Rattle.ec_history.specs.Moments.{Moments, Past, moment_of, no_moments, now, past}
 use Rattle.ec_history.specs.Run.{fresh}
 use Rattle.ec_history.specs.Short.{brick_at, bricks_of, does, flat_of, lock, two}
 use Rattle.ec_history.specs.Story.{Story, opening}
@@ -54,9 +54,21 @@ a_kept_stat = Called 1 1 (Write two 0 (65 ∷ [])) ∷ does 1 1 1 0 (PostOp two 
     ++ cut_off ++ Called 2 2 (Write two 0 (66 ∷ [])) ∷ does 3 2 2 0 (PostOp two 92 1 2 1 None) ++ does 4 2 2 1 (PostOp two 92 1 2 1 None)
     ++ Called 3 1 (Stat two) ∷ []
 
+-- A heal reads a stripe; then client 2 writes it at brick 2, and the heal asks again.
+abbrev pub a_heal : List Entry
+a_heal = Called 1 1 (Heal two) ∷ does 1 1 1 0 (ReadChunks two 0 0 1) ++ Sent (record { no = 2; call = 1; client = 1; brick = 0; body = ToClient 1 (Chunks ((66 ∷ []) ∷ [])) }) ∷ Heard 2 ∷ []
+    ++ Called 2 2 (Write two 0 (65 ∷ [])) ∷ does 3 2 2 2 (WriteChunks two 92 0 ((65 ∷ []) ∷ []))
+    ++ does 4 1 1 0 (Ask two Inode Exclusive) ++ is_granted 5 0 4 ++ does 6 1 1 0 (Query two 4)
+
+abbrev pub after_heal : Moments
+after_heal = (past three a_heal (beginning two_locked)).moments
+
 pub record MomentOfCalls : Type 0 where
   -- the last Granted before the Query, and not the first
   pub last_granted : version_at two_locked a_stat 1 1 ≡ 1
   -- under kept grants its client's last commit, where it asks nobody, and else its Called
   pub asks_nobody : version_at (alike 0 0) a_kept_stat 3 1 ≡ 1
   pub asks : version_at (alike 0 0) (a_kept_stat ++ does 5 3 1 0 (PostOp two 91 2 3 1 None)) 3 1 ≡ 2
+  -- the stripe was written since the heal read it, and not since its moment
+  pub since_read : after_heal.rewritten 1 2 2 0 ≡ true
+  pub before_moment : (after_heal.moment 1 2).stirred 2 2 0 ≡ false

@@ -37,7 +37,8 @@ now m t = record { tree = t.tree; brick = m.brick; stirred = λ g b s. false; st
 -- had before it last sent a Query for it, and by call `last` is the gfid of its last Query. A call begins with its Called, which is its moment where it goes on under grants that its client
 -- has kept. `asks` is whether it has asked a brick for anything, and `commits`, by client and gfid, when a call of the
 -- client last committed: the moment of a call that asks no brick. `read` is, by call, gfid, brick and stripe, the chunk
--- that the call has last heard.
+-- that the call has last heard, and `rewritten` whether a data request was executed on the stripe there since the call heard
+-- a chunk of it.
 pub record Moments : Type 0 where
   pub granted : ℕ → ℕ → Moment
   pub moment : ℕ → ℕ → Moment
@@ -45,9 +46,10 @@ pub record Moments : Type 0 where
   pub asks : ℕ → Bool
   pub commits : ℕ → ℕ → Moment
   pub read : ℕ → ℕ → ℕ → ℕ → Option (List ℕ)
+  pub rewritten : ℕ → ℕ → ℕ → ℕ → Bool
 
 abbrev pub no_moments : Moment → Moments
-no_moments first = record { granted = λ a g. first; moment = λ a g. first; last = λ a. 0; asks = λ a. false; commits = λ c g. first; read = λ a g b s. None }
+no_moments first = record { granted = λ a g. first; moment = λ a g. first; last = λ a. 0; asks = λ a. false; commits = λ c g. first; read = λ a g b s. None; rewritten = λ a g b s. false }
 
 -- The moment of a call, by which it is answered: that of its last Query, its Called under kept grants where it has sent
 -- none, and where it has asked no brick, its client's last commit on the gfid.
@@ -65,7 +67,10 @@ asked_by w a (ToBrick q) = record w { asks = λ c. cond (c == a) true (w.asks c)
 asked_by w a (ToClient re reply) = w
 
 abbrev pub reads : Moments → ℕ → ℕ → ℕ → ℕ → List (List ℕ) → Moments
-reads w a g b first chunks = record w { read = λ c h d s. cond ((c == a) && (h == g) && (d == b)) (or_else (item_at first chunks s) (w.read c h d s)) (w.read c h d s) }
+reads w a g b first chunks = record w {
+  read = λ c h d s. cond ((c == a) && (h == g) && (d == b)) (or_else (item_at first chunks s) (w.read c h d s)) (w.read c h d s);
+  rewritten = λ c h d s. cond ((c == a) && (h == g) && is_among first (length chunks) s) false (w.rewritten c h d s);
+}
 
 -- what a call hears in reply to a request of its own
 abbrev pub heard_of : Moments → Moment → Message → Request → Reply → Moments
@@ -103,17 +108,21 @@ to_each f w = record w { granted = λ a g. f (w.granted a g); moment = λ a g. f
 abbrev pub commit_at : Geometry → Net → Story → Moments → Message → ℕ → Moment → Moments
 commit_at geometry m t w msg g x = cond (is_unmarked (head_at (m.brick msg.brick).records g) && is_commit geometry t msg.call g msg.brick) (record w { commits = put2 w.commits msg.client g x }) w
 
+-- a data request was executed on these stripes of gfid g at brick b, since each moment and each read
+abbrev pub stirred_at : ℕ → ℕ → (ℕ → Bool) → Moments → Moments
+stirred_at g b stripes w = record (to_each (stirs g b stripes) w) { rewritten = λ c h d s. cond ((h == g) && (d == b) && stripes s) true (w.rewritten c h d s) }
+
 -- a request that was done; `x` is the moment after it
 abbrev pub done_of : Geometry → Net → Story → Moments → Message → Moment → Request → Moments
-done_of geometry m t w msg x (WriteChunks g n first chunks) = cond (is_heal (op_of m msg.call)) w (to_each (stirs g.0 msg.brick (is_among first (length chunks))) w)
-done_of geometry m t w msg x (SetLength g n keep count) = cond (is_heal (op_of m msg.call)) w (to_each (stirs g.0 msg.brick (λ s. nat_le keep s)) w)
+done_of geometry m t w msg x (WriteChunks g n first chunks) = cond (is_heal (op_of m msg.call)) w (stirred_at g.0 msg.brick (is_among first (length chunks)) w)
+done_of geometry m t w msg x (SetLength g n keep count) = cond (is_heal (op_of m msg.call)) w (stirred_at g.0 msg.brick (λ s. nat_le keep s) w)
 done_of geometry m t w msg x (NameSet g n name child) = to_each (stirs_name g.0 msg.brick name) w
 done_of geometry m t w msg x (PostOp g n at version size attr) = commit_at geometry m t w msg g.0 x
 done_of geometry m t w msg x q = w
 
 -- a write of which a part may stand
 abbrev pub partly : Net → Moments → Message → Request → Option ℕ → Moments
-partly m w msg (WriteChunks g n first chunks) (Some version) = cond (is_heal (op_of m msg.call)) w (to_each (stirs g.0 msg.brick (is_among first (length chunks))) w)
+partly m w msg (WriteChunks g n first chunks) (Some version) = cond (is_heal (op_of m msg.call)) w (stirred_at g.0 msg.brick (is_among first (length chunks)) w)
 partly m w msg q version = w
 
 abbrev pub outcome_of : Geometry → Net → Story → Moments → Message → Moment → Request → Option ℕ → Bool → Moments

@@ -1,5 +1,5 @@
 -- Worked examples of standing: records that stand for no flat file of version 1, each by one clause.
-use Rattle.std.specs.Prelude.{◌≡◌, ℕ, cond, ◌==◌, true, false, Some, None}
+use Rattle.std.specs.Prelude.{◌≡◌, ℕ, Bool, not, cond, ◌==◌, true, false, Some, None}
 use Rattle.ec_attr.specs.declared.config.Config.{Config}
 use Rattle.ec_attr.specs.declared.kind.Kind.{Kind}
 use Rattle.ec_attr.specs.declared.kind.Kind.TheVariants.{File, Dir}
@@ -7,8 +7,9 @@ use Rattle.ec_store.specs.Put.{put}
 use Rattle.ec_store.specs.Records.{Record, Records, empty}
 use Rattle.ec_brick.specs.Opening.{first_root}
 use Rattle.ec_conduct.specs.Examples.{three}
-use Rattle.ec_history.specs.Flat.{Flat, blank}
-use Rattle.ec_history.specs.Holds.{Copies, Stands}
+use Rattle.ec_history.specs.Flat.{Flat, blank, made}
+use Rattle.ec_history.specs.Flat.Opener.{Nobody, One}
+use Rattle.ec_history.specs.Holds.{Copies, IsHeadOf, Stands}
 use Rattle.ec_history.specs.NameExamples.{file_three}
 use Rattle.ec_history.specs.Reference.{Healing, IsReference, IsWholeReference}
 use Rattle.ec_history.specs.Run.{wiped}
@@ -46,13 +47,40 @@ abbrev pub disturbed : Record
 disturbed = record (record_of File 1 0) { piece = λ s i. None }
 
 abbrev pub heal_of : ℕ → Healing
-heal_of dirty = record { flat = at_one; copies = copies_of (record_of File 1 0) (record_of File 1 0) disturbed; dirty = dirty; stirred = λ s. true; stirred_name = λ n. true; read = λ c s. None }
+heal_of dirty = record { flat = at_one; copies = copies_of (record_of File 1 0) (record_of File 1 0) disturbed; dirty = dirty; stirred = λ s. true; stirred_name = λ n. true; read = λ c s. None; rewritten = λ s. true }
 
 pub record Healed : Type 0 where
   pub reference : IsReference config (heal_of 0) 2 disturbed
   -- with another dirty number than the group's, or by a heal that is answered Healed, it isn't one
   pub other_dirty : IsReference config (heal_of 1) 2 disturbed → ⊥
   pub whole : IsWholeReference config (heal_of 0) 2 disturbed → ⊥
+
+-- A file of one byte whose stripe is open, and a sink that holds none of it: a client wrote the stripe there after the heal
+-- had read it, and before the heal's last window.
+abbrev pub of_open : Bool → Healing
+of_open rewritten = record {
+  flat = record (flat_of File 1 1 0) { opener = λ s. cond (s == 0) (One 1) Nobody };
+  copies = copies_of (record_of File 1 1) (record_of File 1 1) (record_of File 1 1);
+  dirty = 0;
+  stirred = λ s. not (s == 0);
+  stirred_name = λ n. true;
+  read = λ c s. None;
+  rewritten = λ s. rewritten;
+}
+
+abbrev pub behind : Record
+behind = record (record_of File 1 1) { piece = λ s i. None }
+
+-- The heal began before the first Make of a directory.
+abbrev pub before_make : Healing
+before_make = record (heal_of 0) { flat = blank; copies = λ b. None }
+
+pub record HealedOpen : Type 0 where
+  pub overtaken : IsReference config (of_open true) 2 behind
+  -- had nobody written it since, the sink would have what the heal has read
+  pub not_overtaken : IsReference config (of_open false) 2 behind → ⊥
+  -- the head of a new record, and no other attribute
+  pub made_since : IsHeadOf config (made Dir before_make.flat) (head_of Dir 0 0)
 
 -- Fresh bricks begin with the root's record and stand for an empty root; a wipe takes the lowest records first.
 abbrev pub two_records : Records

@@ -7,7 +7,7 @@ ghost use Rattle.ec_history.specs.MomentExamples.{MomentOfCalls};
 ghost use Rattle.ec_history.specs.NameExamples.{Attributes, MadeFile, Moves, Names};
 ghost use Rattle.ec_history.specs.RunExample.{AStatIsARun};
 ghost use Rattle.ec_history.specs.ScriptExamples.{CutShortCall, SettlingOfTwo};
-ghost use Rattle.ec_history.specs.StandingExamples.{Beginnings, Healed, NotStanding};
+ghost use Rattle.ec_history.specs.StandingExamples.{Beginnings, Healed, HealedOpen, NotStanding};
 
 /// What a commit makes of the flat file. It does nothing when it runs.
 pub fn flat_laws()
@@ -81,10 +81,11 @@ pub fn worked_steps()
 {}
 
 /// Records that stand for no flat file, the record that a heal makes, and plain answers. It does nothing when it runs.
-#[tactic(auto, using(crate::proofs::StandingExamples::not_standing, crate::proofs::StandingExamples::healed, crate::proofs::StandingExamples::beginnings, crate::proofs::AnswerExamples::plain_answers))]
+#[tactic(auto, using(crate::proofs::StandingExamples::not_standing, crate::proofs::StandingExamples::healed, crate::proofs::StandingExamples::healed_open, crate::proofs::StandingExamples::beginnings, crate::proofs::AnswerExamples::plain_answers))]
 pub fn worked_states()
     ensures standing { NotStanding }
     ensures healed { Healed }
+    ensures healed_open { HealedOpen }
     ensures beginnings { Beginnings }
     ensures answers { PlainAnswers }
 {}

@@ -57,16 +57,16 @@ healed_open = record {
     version = refl;
     dirty = refl;
     closed = closed;
-    opened = λ s o f l. absurd (cc);
+    opened = λ s o f l. absurd (let read : true ≡ false = f in cc);
     end = record { length = 512; of_size = record { stripes = 1; hold = record { enough = lit≤ tt; least = λ fewer l. omega (arith, l) }; chunks = refl }; earlier = earlier; later = λ l. absurd (omega (arith, l)) };
-    names = λ n o f. absurd (cc);
+    names = λ n o f. absurd (let quiet : true ≡ false = f in cc);
   };
   not_overtaken = λ r. none_read (r.opened 0 refl refl (lit≤ tt)).enough;
   made_since = record { kind = refl; of_volume = refl; size = refl; attr = refl };
 } where
   closed : (s : ℕ) → is_open ((of_open true).flat.opener s) ≡ false → (of_open true).stirred s ≡ false → HasGroupsStripe config.geometry (of_open true) 2 behind s
-  closed zero o f = absurd (cc)
-  closed (suc s) o f = absurd (cc)
+  closed zero o f = absurd (let shut : true ≡ false = o in cc)
+  closed (suc s) o f = absurd (let quiet : true ≡ false = f in cc)
 
   earlier : (s : ℕ) → behind.shortest < 512 * (s + 1) → 512 * (s + 1) ≤ 512 → IsUnsettled (of_open true) s
   earlier zero l m = inl refl

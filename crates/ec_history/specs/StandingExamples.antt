@@ -1,5 +1,5 @@
 -- Worked examples of standing: records that stand for no flat file of version 1, each by one clause.
-use Rattle.std.specs.Prelude.{◌≡◌, ℕ, Bool, not, cond, ◌==◌, true, false, Some, None}
+use Rattle.std.specs.Prelude.{◌≡◌, ℕ, zero, suc, Bool, cond, ◌==◌, true, false, Some, None}
 use Rattle.ec_attr.specs.declared.config.Config.{Config}
 use Rattle.ec_attr.specs.declared.kind.Kind.{Kind}
 use Rattle.ec_attr.specs.declared.kind.Kind.TheVariants.{File, Dir}
@@ -55,14 +55,18 @@ pub record Healed : Type 0 where
   pub other_dirty : IsReference config (heal_of 1) 2 disturbed → ⊥
   pub whole : IsWholeReference config (heal_of 0) 2 disturbed → ⊥
 
+abbrev pub is_later : ℕ → Bool
+is_later zero = false
+is_later (suc s) = true
+
 -- A file of one byte whose stripe is open, and a sink that holds none of it: a client wrote the stripe there after the heal
 -- had read it, and before the heal's last window.
 abbrev pub of_open : Bool → Healing
 of_open rewritten = record {
-  flat = record (flat_of File 1 1 0) { opener = λ s. cond (s == 0) (One 1) Nobody };
+  flat = record (flat_of File 1 1 0) { opener = λ s. cond (is_later s) Nobody (One 1) };
   copies = copies_of (record_of File 1 1) (record_of File 1 1) (record_of File 1 1);
   dirty = 0;
-  stirred = λ s. not (s == 0);
+  stirred = is_later;
   stirred_name = λ n. true;
   read = λ c s. None;
   rewritten = λ s. rewritten;

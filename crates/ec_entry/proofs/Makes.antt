@@ -63,7 +63,7 @@ not_so : (t : Bool) (o : Option ℕ) → cond (not t) None o ≡ cond t o None
 not_so true o = refl
 not_so false o = refl
 
-serves : (w : Option Wait) (p : PlaceOf) → serving_by (digest w p) ≡ serving p
+pub serves : (w : Option Wait) (p : PlaceOf) → serving_by (digest w p) ≡ serving p
 serves w p = not_so (failed_none is_any p.window) (grant_by (held p.inode)) ∙ ap (λ (o : Option ℕ). cond (failed_none is_any p.window) o None) (granted_held p.inode)
 
 none_under : (s : Option ℕ) (q : ℕ → ℕ → Request) → None ≡ under s None q

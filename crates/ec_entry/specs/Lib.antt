@@ -1,5 +1,8 @@
 pub mod Asked
+pub mod ChangesSound
 pub mod Changing
+pub mod Children
+pub mod FoundSound
 pub mod GetAttr
 pub mod GetAttrSound
 pub mod Lookup
@@ -11,6 +14,12 @@ pub mod Members
 pub mod MembersSound
 pub mod Named
 pub mod Naming
+pub mod Paging
 pub mod Queried
+pub mod Readdir
+pub mod ReaddirSound
 pub mod SetAttr
 pub mod SetAttrSound
+pub mod Unlink
+pub mod UnlinkSays
+pub mod UnlinkSound

@@ -24,7 +24,8 @@ fn is_same_kind(a: Kind, b: Kind) -> bool
     a == b
 }
 
-fn is_same(a: Option<Child>, b: Option<Child>) -> bool
+/// Whether two values are equal.
+pub fn is_same(a: Option<Child>, b: Option<Child>) -> bool
     ensures { result ≡ same_value a b }
 {
     match (a, b) {
@@ -35,7 +36,7 @@ fn is_same(a: Option<Child>, b: Option<Child>) -> bool
 }
 
 /// What a brick of the set replied, where that is a child, or that there is none.
-fn said_by(known: &Known, bricks: &BrickSet, brick: u8) -> Option<Option<Child>>
+pub fn said_by(known: &Known, bricks: &BrickSet, brick: u8) -> Option<Option<Child>>
     requires { brick < 31 }
     ensures { result ≡ said bricks.now (reply_at known.now.replies.items.items) brick }
 {

@@ -2,3 +2,4 @@ pub mod Filling
 pub mod Following
 pub mod Gathered
 pub mod Givers
+pub mod Tails

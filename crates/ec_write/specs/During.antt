@@ -35,16 +35,19 @@ IsUnwritten g c = (x : ℕ) → tried is_write (at c g x).window ≡ false
 abbrev pub IsUnread : ℕ → ℕ → Account → Type 0
 IsUnread g from c = (x s : ℕ) → from ≤ s → tried (is_read_from s) (at c g x).window ≡ false
 
--- a brick did the PreOp, and was sent no change since
-pub record IsReadied (g : ℕ) (group : Group) (grant version : ℕ) (es : List Exchange) : Type 0 where
+-- a brick did the PreOp and, with every one done, these changes since, the last first
+pub record HasChanged (g : ℕ) (group : Group) (grant version : ℕ) (rs : List Request) (es : List Exchange) : Type 0 where
   pub pre : last_done is_pre es ≡ Some (PreOp (record { 0 = g }) grant version (next_dirty group.head))
   pub done : (did is_pre es && failed_none is_change (since is_pre es)) ≡ true
-  pub none : changes (since is_pre es) ≡ []
+  pub sent : changes (since is_pre es) ≡ rs
+
+-- it did the PreOp, and was sent no change since
+abbrev pub IsReadied : ℕ → Group → ℕ → ℕ → List Exchange → Type 0
+IsReadied g group grant version es = HasChanged g group grant version [] es
 
 -- of a call begun with v, between the PreOps and the PostOps, as long as nothing is written
 pub record IsBetween (v : Given) (c : Account) (group : Group) : Type 0 where
   pub within : is_within group.head ≡ true
-  pub some : 0 < length (data_of v.op)
   pub group_is : IsGroupAt c (subject v.op) group
   pub readied : (x grant version : ℕ) → x < bricks_of v → serving (at c (subject v.op) x) ≡ Some grant → version_at group x ≡ Some version → IsReadied (subject v.op) group grant version (at c (subject v.op) x).window
   pub unwritten : IsUnwritten (subject v.op) c
@@ -69,23 +72,37 @@ KnowsLast v c group back = reads_last (quorum_of v) (off_of v.op) (length (data_
 abbrev pub IsPlaced : Given → Account → Group → List (List ℕ) → ℕ → Type 0
 IsPlaced v c group front s = (s ≡ first_at v) ⊎ ((s ≡ last_at v) × (1 < count_at v) × KnowsFirst v c group front)
 
-pub record IsReadingOf (x : Ctx) (v : Given) (c : Account) (group : Group) (reading : Reading) (front : List (List ℕ)) (f : Asks) : Type 0 where
+-- one stripe is read, from bricks of the group that did all so far
+pub record IsReadingOne (x : Ctx) (v : Given) (c : Account) (group : Group) (reading : Reading) (f : Asks) : Type 0 where
   pub between : IsBetween v c group
   pub reading_is : reading ≡ reading_of x (subject v.op) group reading.first
   pub unread : IsUnread (subject v.op) reading.first c
-  pub placed : IsPlaced v c group front reading.first
   pub asks : IsReading (subject v.op) (bricks_of v) reading c f
   pub serves : (y : ℕ) (r : Request) → f y ≡ Some r → (is_in group.bricks y ≡ true) × (i : ℕ) × (serving (at c (subject v.op) y) ≡ Some i)
 
-pub record IsWritingOf (v : Given) (c : Account) (group : Group) (lists : List (List (List ℕ))) (f : Asks) : Type 0 where
+pub record IsReadingOf (x : Ctx) (v : Given) (c : Account) (group : Group) (reading : Reading) (front : List (List ℕ)) (f : Asks) : Type 0 where
+  pub one : IsReadingOne x v c group reading f
+  pub some : 0 < length (data_of v.op)
+  pub placed : IsPlaced v c group front reading.first
+
+-- each brick of the group and each sink that did all so far is asked for the change that q tells
+pub record IsChanging (v : Given) (c : Account) (group : Group) (q : ℕ → ℕ → ℕ → Request) (f : Asks) : Type 0 where
+  pub asks : (y : ℕ) (r : Request) → f y ≡ Some r → (y < bricks_of v) × (i version : ℕ) × (serving (at c (subject v.op) y) ≡ Some i) × (version_at group y ≡ Some version) × (r ≡ q y i version)
+  pub asked : (y i version : ℕ) → y < bricks_of v → serving (at c (subject v.op) y) ≡ Some i → version_at group y ≡ Some version → f y ≡ Some (q y i version)
+
+-- The chunks of the stripes that bytes from `off` on touch are written, as in a file of this size: what is past it becomes
+-- zeros.
+pub record IsWritingAt (v : Given) (c : Account) (group : Group) (off : ℕ) (bytes : List ℕ) (size : ℕ) (lists : List (List (List ℕ))) (f : Asks) : Type 0 where
   pub between : IsBetween v c group
   pub front : List (List ℕ)
   pub back : List (List ℕ)
-  pub coded : AreCoded v.geometry (off_of v.op) (data_of v.op) group.head.size front back lists
-  pub knows_first : KnowsFirst v c group front
-  pub knows_last : KnowsLast v c group back
-  pub asks : (y : ℕ) (r : Request) → f y ≡ Some r → (y < bricks_of v) × (i version : ℕ) × (serving (at c (subject v.op) y) ≡ Some i) × (version_at group y ≡ Some version) × (r ≡ write_request (subject v.op) (first_at v) (list_at lists y) i version)
-  pub asked : (y i version : ℕ) → y < bricks_of v → serving (at c (subject v.op) y) ≡ Some i → version_at group y ≡ Some version → f y ≡ Some (write_request (subject v.op) (first_at v) (list_at lists y) i version)
+  pub coded : AreCoded v.geometry off bytes size front back lists
+  pub knows_first : reads_first (quorum_of v) off (length bytes) size ≡ true → IsOld c (subject v.op) (first_stripe (quorum_of v) off) group.head front
+  pub knows_last : reads_last (quorum_of v) off (length bytes) size ≡ true → IsOld c (subject v.op) (first_stripe (quorum_of v) off + (count_stripes (quorum_of v) off (length bytes) - 1)) group.head back
+  pub changing : IsChanging v c group (λ y. write_request (subject v.op) (first_stripe (quorum_of v) off) (list_at lists y)) f
+
+abbrev pub IsWritingOf : Given → Account → Group → List (List (List ℕ)) → Asks → Type 0
+IsWritingOf v c group lists f = (0 < length (data_of v.op)) × IsWritingAt v c group (off_of v.op) (data_of v.op) group.head.size lists f
 
 -- As the PreOps go out, the call has bytes to write, and no data was asked for or sent.
 abbrev pub IsFresh : Given → Account → Type 0

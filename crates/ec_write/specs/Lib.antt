@@ -1,12 +1,16 @@
 pub mod Between
 pub mod Bytes
+pub mod Cuttings
 pub mod During
+pub mod DuringTruncate
 pub mod Filled
 pub mod Numbers
 pub mod Olds
 pub mod Range
 pub mod Sendings
 pub mod Stripes
+pub mod Truncate
+pub mod TruncateSound
 pub mod Windows
 pub mod Write
 pub mod WriteSound

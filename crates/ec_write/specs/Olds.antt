@@ -28,7 +28,7 @@ use Rattle.ec_txn.specs.Replies.{last_reply, replied}
 use Rattle.ec_txn.specs.Rounds.{Asks, IsIdle, IsRound, subject}
 use Rattle.ec_txn.proofs.BallotGoes.{Grows, reply_same}
 use Rattle.ec_txn.proofs.BallotSends.{quorum_stays, version_in}
-use Rattle.ec_write.specs.During.{IsReadingOf}
+use Rattle.ec_write.specs.During.{IsReadingOne}
 use Rattle.ec_write.specs.Stripes.{IsDecoded, first_chunk, gave, has_chunk}
 use Rattle.ec_write.specs.Windows.{AsksData, Grown, data_read, group_kept, grown}
 
@@ -159,7 +159,7 @@ read_other g grant s t count (Some (NotAt h)) l = refl
 read_other g grant s t count (Some Fault) l = refl
 read_other g grant s t count (Some (Gfids h)) l = refl
 
-module _ (x : Ctx) (v : Given) (group : Group) (reading : Reading) (front : List (List ℕ)) (c : Account) (f : Asks) (d : Account) (l : IsReadingOf x v c group reading front f) (cg : c.given ≡ v) (r : IsRound (subject v.op) c f d) (idle : IsIdle d) where
+module _ (x : Ctx) (v : Given) (group : Group) (reading : Reading) (c : Account) (f : Asks) (d : Account) (l : IsReadingOne x v c group reading f) (cg : c.given ≡ v) (r : IsRound (subject v.op) c f d) (idle : IsIdle d) where
   g : ℕ
   g = subject v.op
 

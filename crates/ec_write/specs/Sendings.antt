@@ -23,12 +23,13 @@ use Rattle.ec_txn.specs.Tables.{IsIn as IsAt}
 use Rattle.ec_txn.proofs.Ballots.{group_stays, serving_is}
 use Rattle.ec_txn.proofs.BallotSends.{holds_by}
 use Rattle.ec_txn.proofs.Openings.{is_free}
-use Rattle.ec_write.specs.During.{IsSized, IsWritingOf, count_at, first_at, last_at}
+use Rattle.ec_write.specs.During.{IsWritingAt}
 use Rattle.ec_write.specs.Range.{count_stripes, data_of, first_stripe, head_of, kept_bytes, off_of, reach}
 use Rattle.ec_write.specs.Stripes.{list_at, old_stripe}
 use Rattle.ec_write.specs.Write.{IsWrite, write_request}
 use Rattle.ec_write.specs.Bytes.{IsEdge, is_inside, new_is, place_is, stays_at_edge}
 use Rattle.ec_write.specs.Olds.{old_stays}
+use Rattle.ec_write.specs.Windows.{data_same}
 use Rattle.ec_write.specs.Writings.{of_write, wide, writing_data}
 
 -- no chunk but by a write
@@ -94,6 +95,15 @@ fresh_is op i place = of_write (λ (o : Op). fresh_byte o place ≡ cond (is_ins
 changes_it : (op : Op) → IsWrite op → changes_data op (subject op) ≡ true
 changes_it op i = of_write (λ (o : Op). changes_data o (subject o) ≡ true) op i (λ g off bytes. eq-eqb g.0 g.0 refl)
 
+-- What a call makes of a file of `old` bytes: those of a range, and zeros past `size`; all others stay.
+pub record Fills (op : Op) (old off : ℕ) (bytes : List ℕ) (size : ℕ) : Type 0 where
+  pub changes : changes_data op (subject op) ≡ true
+  pub stays_is : (place : ℕ) → stays op old place ≡ (nat_lt place size && not (is_inside off (length bytes) place))
+  pub fresh_is : (place : ℕ) → fresh_byte op place ≡ cond (is_inside off (length bytes) place) (slice_index bytes (place - off)) 0
+
+pub write_fills : (op : Op) → IsWrite op → (size : ℕ) → Fills op size (off_of op) (data_of op) size
+write_fills op i size = record { changes = changes_it op i; stays_is = stays_is op i size; fresh_is = fresh_is op i }
+
 not_false : (b : Bool) → not b ≡ true → b ≡ false
 not_false true e = absurd (cc)
 not_false false e = refl
@@ -124,15 +134,11 @@ old_back : (front back : List (List ℕ)) (i : ℕ) → 0 < i → old_stripe fro
 old_back front back zero l = absurd (omega (arith, l))
 old_back front back (suc i) l = refl
 
-module _ (x : Ctx) (group : Group) (lists : List (List (List ℕ))) (c : Account) (f h : Asks) (d : Account) (a : IsAt x d.given c) (l : IsWritingOf d.given c group lists f) (sized : IsSized d.given.op) (s : IsSent (subject d.given.op) c h d)
+module _ (x : Ctx) (group : Group) (off : ℕ) (content : List ℕ) (size : ℕ) (lists : List (List (List ℕ))) (c : Account) (f h : Asks) (d : Account) (a : IsAt x d.given c) (l : IsWritingAt d.given c group off content size lists f) (fills : Fills d.given.op group.head.size off content size) (s : IsSent (subject d.given.op) c h d)
     (part : (y : ℕ) (r : Request) → h y ≡ Some r → f y ≡ Some r) where
   -- what is over is the same all through the round
   same : (y : ℕ) → at d (subject d.given.op) y ≡ at c (subject d.given.op) y
-  same y = go (h y) refl (s.each y)
-    where
-      go : (o : Option Request) → h y ≡ o → IsSentTo o (at c (subject d.given.op) y) (d.waits y) (at d (subject d.given.op) y) → at d (subject d.given.op) y ≡ at c (subject d.given.op) y
-      go None e t = t.1
-      go (Some r) e t = t.2 ∙ (writing_data d.given group lists c f l y r (part y r e)).0.locks (at c (subject d.given.op) y) t.0
+  same = data_same (subject d.given.op) c f h d (writing_data d.given group off content size lists c f l) s part
 
   group_here : IsGroupAt d (subject d.given.op) group
   group_here = group_stays c d (subject d.given.op) group s.given (λ y. ap (λ (p : Place). told_head (reply_to is_query p.window)) (same y)) l.between.group_is
@@ -140,60 +146,57 @@ module _ (x : Ctx) (group : Group) (lists : List (List (List ℕ))) (c : Account
   old_here : (t : ℕ) (stripe : List (List ℕ)) → IsOld c (subject d.given.op) t group.head stripe → IsOld d (subject d.given.op) t group.head stripe
   old_here t stripe o = old_stays (subject d.given.op) t group.head stripe c d s.given (λ y. inl (ap (λ (p : Place). p.window) (same y))) o
 
-  count : ℕ
-  count = count_at d.given
-
-  all_code : (i : ℕ) → i < count_at d.given → (y : ℕ) → y < bricks_of d.given → AllCode d y (l.coded.stripe i) (first_at d.given + i) (requests_at d (subject d.given.op) y)
+  all_code : (i : ℕ) → i < count_stripes (quorum_of d.given) off (length content) → (y : ℕ) → y < bricks_of d.given → AllCode d y (l.coded.stripe i) (first_stripe (quorum_of d.given) off + i) (requests_at d (subject d.given.op) y)
   all_code i less y below =
-      codes_joined d y (first_at d.given + i) (l.coded.stripe i) (waited_at (subject d.given.op) (d.waits y)) (map (λ (e : Exchange). e.request) (at d (subject d.given.op) y).window)
+      codes_joined d y (first_stripe (quorum_of d.given) off + i) (l.coded.stripe i) (waited_at (subject d.given.op) (d.waits y)) (map (λ (e : Exchange). e.request) (at d (subject d.given.op) y).window)
       (go (h y) refl (s.each y))
-      (unwritten_codes d y (first_at d.given + i) (l.coded.stripe i) (at d (subject d.given.op) y).window (ap (λ (p : Place). tried is_write p.window) (same y) ∙ l.between.unwritten y))
+      (unwritten_codes d y (first_stripe (quorum_of d.given) off + i) (l.coded.stripe i) (at d (subject d.given.op) y).window (ap (λ (p : Place). tried is_write p.window) (same y) ∙ l.between.unwritten y))
     where
-      go : (o : Option Request) → h y ≡ o → IsSentTo o (at c (subject d.given.op) y) (d.waits y) (at d (subject d.given.op) y) → AllCode d y (l.coded.stripe i) (first_at d.given + i) (waited_at (subject d.given.op) (d.waits y))
-      go None e t = subst (λ (w : Option Wait). AllCode d y (l.coded.stripe i) (first_at d.given + i) (waited_at (subject d.given.op) w)) (sym t.0) tt
+      go : (o : Option Request) → h y ≡ o → IsSentTo o (at c (subject d.given.op) y) (d.waits y) (at d (subject d.given.op) y) → AllCode d y (l.coded.stripe i) (first_stripe (quorum_of d.given) off + i) (waited_at (subject d.given.op) (d.waits y))
+      go None e t = subst (λ (w : Option Wait). AllCode d y (l.coded.stripe i) (first_stripe (quorum_of d.given) off + i) (waited_at (subject d.given.op) w)) (sym t.0) tt
       go (Some r) e t =
-          let w = l.asks y r (part y r e) in
-          let n : length (list_at lists y) ≡ count_at d.given = l.coded.len y below in
-          subst (λ (z : Option Wait). AllCode d y (l.coded.stripe i) (first_at d.given + i) (waited_at (subject d.given.op) z)) (sym t.1)
-          (waited_codes d y (subject d.given.op) (first_at d.given) i w.1 w.2 (l.coded.stripe i) (list_at lists y) (record { number = t.0; request = r }) w.5 (omega (arith, n, less)) (l.coded.codes y i below less))
+          let w = l.changing.asks y r (part y r e) in
+          let n : length (list_at lists y) ≡ count_stripes (quorum_of d.given) off (length content) = l.coded.len y below in
+          subst (λ (z : Option Wait). AllCode d y (l.coded.stripe i) (first_stripe (quorum_of d.given) off + i) (waited_at (subject d.given.op) z)) (sym t.1)
+          (waited_codes d y (subject d.given.op) (first_stripe (quorum_of d.given) off) i w.1 w.2 (l.coded.stripe i) (list_at lists y) (record { number = t.0; request = r }) w.5 (omega (arith, n, less)) (l.coded.codes y i below less))
 
-  known : (i p : ℕ) → i < count_at d.given → p < stripe_bytes (quorum_of d.given) → stays d.given.op group.head.size (stripe_bytes (quorum_of d.given) * (first_at d.given + i) + p) ≡ true
-      → IsOld d (subject d.given.op) (first_at d.given + i) group.head (old_stripe l.front l.back i)
+  known : (i p : ℕ) → i < count_stripes (quorum_of d.given) off (length content) → p < stripe_bytes (quorum_of d.given) → stays d.given.op group.head.size (stripe_bytes (quorum_of d.given) * (first_stripe (quorum_of d.given) off + i) + p) ≡ true
+      → IsOld d (subject d.given.op) (first_stripe (quorum_of d.given) off + i) group.head (old_stripe l.front l.back i)
   known i p less below e =
       let k : ℕ = quorum_of d.given in
       let pos : 0 < stripe_bytes (quorum_of d.given) = (let z = wide d.given in omega (arith, z)) in
-      let edge : IsEdge (quorum_of d.given) (off_of d.given.op) (length (data_of d.given.op)) group.head.size i = edge_of (quorum_of d.given) (off_of d.given.op) (length (data_of d.given.op)) group.head.size i p pos below less
-      (sym (stays_is d.given.op sized.0 group.head.size (stripe_bytes (quorum_of d.given) * (first_at d.given + i) + p)) ∙ e) in
+      let edge : IsEdge (quorum_of d.given) off (length content) size i = edge_of (quorum_of d.given) off (length content) size i p pos below less
+      (sym (fills.stays_is (stripe_bytes (quorum_of d.given) * (first_stripe (quorum_of d.given) off + i) + p)) ∙ e) in
       ⊎_elim
       (λ z.
-      let o : IsOld d (subject d.given.op) (first_at d.given) group.head l.front = old_here (first_at d.given) l.front (l.knows_first z.1) in
-      let t : first_at d.given ≡ first_at d.given + i = (let q = z.0 in omega (arith, q)) in
-      subst (λ (n : ℕ). IsOld d (subject d.given.op) n group.head (old_stripe l.front l.back i)) t (subst (λ (n : ℕ). IsOld d (subject d.given.op) (first_at d.given) group.head (old_stripe l.front l.back n)) (sym z.0) o))
+      let o : IsOld d (subject d.given.op) (first_stripe (quorum_of d.given) off) group.head l.front = old_here (first_stripe (quorum_of d.given) off) l.front (l.knows_first z.1) in
+      let t : first_stripe (quorum_of d.given) off ≡ first_stripe (quorum_of d.given) off + i = (let q = z.0 in omega (arith, q)) in
+      subst (λ (n : ℕ). IsOld d (subject d.given.op) n group.head (old_stripe l.front l.back i)) t (subst (λ (n : ℕ). IsOld d (subject d.given.op) (first_stripe (quorum_of d.given) off) group.head (old_stripe l.front l.back n)) (sym z.0) o))
       (λ z.
-      let o : IsOld d (subject d.given.op) (last_at d.given) group.head l.back = old_here (last_at d.given) l.back (l.knows_last z.2) in
-      let t : last_at d.given ≡ first_at d.given + i = (let q = z.1 in ap (λ (n : ℕ). first_at d.given + n) (sym q)) in
-      subst (λ (n : ℕ). IsOld d (subject d.given.op) n group.head (old_stripe l.front l.back i)) t (subst (λ (st : List (List ℕ)). IsOld d (subject d.given.op) (last_at d.given) group.head st) (sym (old_back l.front l.back i z.0)) o))
+      let o : IsOld d (subject d.given.op) (first_stripe (quorum_of d.given) off + (count_stripes (quorum_of d.given) off (length content) - 1)) group.head l.back = old_here (first_stripe (quorum_of d.given) off + (count_stripes (quorum_of d.given) off (length content) - 1)) l.back (l.knows_last z.2) in
+      let t : first_stripe (quorum_of d.given) off + (count_stripes (quorum_of d.given) off (length content) - 1) ≡ first_stripe (quorum_of d.given) off + i = (let q = z.1 in ap (λ (n : ℕ). first_stripe (quorum_of d.given) off + n) (sym q)) in
+      subst (λ (n : ℕ). IsOld d (subject d.given.op) n group.head (old_stripe l.front l.back i)) t (subst (λ (st : List (List ℕ)). IsOld d (subject d.given.op) (first_stripe (quorum_of d.given) off + (count_stripes (quorum_of d.given) off (length content) - 1)) group.head st) (sym (old_back l.front l.back i z.0)) o))
       edge
 
-  new_stripe : (i : ℕ) → i < count_at d.given → IsNewStripe d (subject d.given.op) (first_at d.given + i) group.head (l.coded.stripe i)
+  new_stripe : (i : ℕ) → i < count_stripes (quorum_of d.given) off (length content) → IsNewStripe d (subject d.given.op) (first_stripe (quorum_of d.given) off + i) group.head (l.coded.stripe i)
   new_stripe i less = record {
     stripe_is = l.coded.stripe_is i less;
     old = old_stripe l.front l.back i;
     known = λ p below e. known i p less below e;
     bytes = λ p below.
         (let pos : 0 < stripe_bytes (quorum_of d.given) = (let z = wide d.given in omega (arith, z)) in
-        let place : ℕ = stripe_bytes (quorum_of d.given) * (first_at d.given + i) + p in
+        let place : ℕ = stripe_bytes (quorum_of d.given) * (first_stripe (quorum_of d.given) off + i) + p in
         l.coded.bytes_are i p less below
-        ∙ (new_is (quorum_of d.given) (off_of d.given.op) (data_of d.given.op) group.head.size i p pos (stripe_byte (old_stripe l.front l.back i) p)
-        ∙ sym (λ j. cond (stays_is d.given.op sized.0 group.head.size (stripe_bytes (quorum_of d.given) * (first_at d.given + i) + p) j) (stripe_byte (old_stripe l.front l.back i) p) (fresh_is d.given.op sized.0 (stripe_bytes (quorum_of d.given) * (first_at d.given + i) + p) j))));
+        ∙ (new_is (quorum_of d.given) off content size i p pos (stripe_byte (old_stripe l.front l.back i) p)
+        ∙ sym (λ j. cond (fills.stays_is (stripe_bytes (quorum_of d.given) * (first_stripe (quorum_of d.given) off + i) + p) j) (stripe_byte (old_stripe l.front l.back i) p) (fills.fresh_is (stripe_bytes (quorum_of d.given) * (first_stripe (quorum_of d.given) off + i) + p) j))));
     one = all_code i less;
   }
 
   pub write_may : (b : ℕ) (r : Request) → f b ≡ Some r → h b ≡ None → MaySend d b r
   write_may b r e n =
-      let w = l.asks b r e in
+      let w = l.changing.asks b r e in
       let g : ℕ = subject d.given.op in
-      let len : length (list_at lists b) ≡ count_at d.given = l.coded.len b w.0 in
+      let len : length (list_at lists b) ≡ count_stripes (quorum_of d.given) off (length content) = l.coded.len b w.0 in
       let ready = l.between.readied b w.1 w.2 w.0 w.3 w.4 in
       subst (λ (q : Request). MaySend d b q) (sym w.5) (
         is_free x d.given b c d h a s n w.0,
@@ -202,11 +205,11 @@ module _ (x : Ctx) (group : Group) (lists : List (List (List ℕ))) (c : Account
             grant_held = ap (λ (p : Place). holds p.inode w.1) (same b) ∙ holds_by (at c (subject d.given.op) b).inode w.1 (serving_is (at c (subject d.given.op) b) w.1 w.3).1;
             ready = ap did_changes (same b) ∙ ready.done;
           };
-          op = changes_it d.given.op sized.0;
+          op = fills.changes;
           head = group.head;
           group = group_here.head;
           codes = λ j m.
-              (let less : j < count_at d.given = omega (arith, len, m) in
+              (let less : j < count_stripes (quorum_of d.given) off (length content) = omega (arith, len, m) in
               record { stripe = l.coded.stripe j; of = new_stripe j less; code = l.coded.codes b j w.0 less });
         }),
       )

@@ -6,13 +6,13 @@ use Rattle.ec_attr.specs.declared.kind.LockKind.{LockKind}
 use Rattle.ec_conduct.specs.Account.{Account, Exchange, Place, at, noted}
 use Rattle.ec_conduct.specs.Done.{is_change, is_done, is_pre, is_query, tried}
 use Rattle.ec_wire.specs.declared.request.Request.{Request}
-use Rattle.ec_wire.specs.declared.request.Request.TheVariants.{Ask, Query, ReadChunks, WriteChunks}
+use Rattle.ec_wire.specs.declared.request.Request.TheVariants.{Ask, Query, ReadChunks, SetLength, WriteChunks}
 use Rattle.ec_txn.specs.Ballot.{IsGroupAt, serving}
-use Rattle.ec_txn.specs.Rounds.{Asks, IsIdle, IsIn, IsRound, asked_place}
+use Rattle.ec_txn.specs.Rounds.{Asks, IsIdle, IsIn, IsRound, IsSent, IsSentTo, asked_place}
 use Rattle.ec_txn.proofs.Ballots.{group_stays, still_serves}
 use Rattle.ec_txn.proofs.BallotGoes.{Grows, reply_same}
 use Rattle.ec_txn.proofs.Openings.{over_in}
-use Rattle.ec_write.specs.During.{IsReadied}
+use Rattle.ec_write.specs.During.{HasChanged}
 
 -- a brick as a round is over: it was asked nothing, or it was asked and that is over
 abbrev pub Grown : Option Request → Place → Place → Type 0
@@ -64,12 +64,23 @@ data_read g grant first count = record { locks = λ p i. refl; query = refl; pre
 pub data_write : (g grant first : ℕ) (chunks : List (List ℕ)) → IsData (WriteChunks (record { 0 = g }) grant first chunks)
 data_write g grant first chunks = record { locks = λ p i. refl; query = refl; pre = refl }
 
+pub data_cut : (g grant keep count : ℕ) → IsData (SetLength (record { 0 = g }) grant keep count)
+data_cut g grant keep count = record { locks = λ p i. refl; query = refl; pre = refl }
+
 pub data_mild : (p : Request → Bool) (r : Request) → IsData r → p r ≡ false → IsMild p r
 data_mild p r k e = record { off = e; window = λ q i. ap (λ (z : Place). z.window) (k.locks q i) }
 
 -- a round that asks bricks which serve for data
 abbrev pub AsksData : ℕ → Account → Asks → Type 0
 AsksData g c f = (x : ℕ) (r : Request) → f x ≡ Some r → IsData r × (i : ℕ) × (serving (at c g x) ≡ Some i)
+
+-- what is over is the same all through such a round
+pub data_same : (g : ℕ) (c : Account) (f h : Asks) (d : Account) → AsksData g c f → IsSent g c h d → ((y : ℕ) (r : Request) → h y ≡ Some r → f y ≡ Some r) → (y : ℕ) → at d g y ≡ at c g y
+data_same g c f h d data_is s part y = go (h y) refl (s.each y)
+  where
+    go : (o : Option Request) → h y ≡ o → IsSentTo o (at c g y) (d.waits y) (at d g y) → at d g y ≡ at c g y
+    go None e t = t.1
+    go (Some r) e t = t.2 ∙ (data_is y r (part y r e)).0.locks (at c g y) t.0
 
 -- what a brick that serves after it did in it
 abbrev pub Went : Option Request → List Exchange → List Exchange → Type 0
@@ -99,10 +110,18 @@ module _ (g : ℕ) (c : Account) (f : Asks) (d : Account) (r : IsRound g c f d) 
   pub group_kept : (group : Group) → IsGroupAt c g group → IsGroupAt d g group
   group_kept group i = group_stays c d g group r.given (λ x. ap Rattle.ec_conduct.specs.Standing.head_of (reply_same (at c g x).window (at d g x).window (data_grows x))) i
 
--- a brick that did the PreOp, and was read since
-pub readied_more : (g : ℕ) (group : Group) (i v : ℕ) (e : Exchange) (old : List Exchange) → is_pre e.request ≡ false → is_change e.request ≡ false → IsReadied g group i v old → IsReadied g group i v (e ∷ old)
-readied_more g group i v e old p q k = record {
+-- a brick that did the PreOp and maybe changes, and was read since
+pub changed_read : (g : ℕ) (group : Group) (i v : ℕ) (rs : List Request) (e : Exchange) (old : List Exchange) → is_pre e.request ≡ false → is_change e.request ≡ false → HasChanged g group i v rs old → HasChanged g group i v rs (e ∷ old)
+changed_read g group i v rs e old p q k = record {
   pre = rw p k.pre;
   done = rw (p, q) k.done;
-  none = rw (p, q) k.none;
+  sent = rw (p, q) k.sent;
+}
+
+-- and one that did a change more
+pub changed_more : (g : ℕ) (group : Group) (i v : ℕ) (rs : List Request) (e : Exchange) (old : List Exchange) → is_pre e.request ≡ false → is_change e.request ≡ true → is_done e.reply ≡ true → HasChanged g group i v rs old → HasChanged g group i v (e.request ∷ rs) (e ∷ old)
+changed_more g group i v rs e old p q done k = record {
+  pre = rw p k.pre;
+  done = rw (p, q, done) k.done;
+  sent = rw (p, q) (ap (λ (xs : List Request). e.request ∷ xs) k.sent);
 }

@@ -1,13 +1,10 @@
 -- The table of a write keeps the conduct.
-use Rattle.std.proofs.Common.{◌≡◌, inl, inr, ⊎_elim, refl, sym, ◌∙◌, ap, subst, ℕ, ◌+◌, ◌-◌, ◌*◌, ◌%◌, ◌<◌, ◌≤◌, ◌^◌, ◌==◌, ◌&&◌, Bool, true, false, cond, nat_lt, nat_le, List, [], length, arith, Option, Some, None, eqb-true, eq-eqb}
+use Rattle.std.proofs.Common.{◌≡◌, inl, inr, ⊎_elim, refl, sym, ◌∙◌, ap, subst, ℕ, ◌+◌, ◌-◌, ◌*◌, ◌<◌, ◌≤◌, ◌^◌, ◌==◌, ◌&&◌, Bool, true, false, cond, nat_lt, nat_le, List, [], length, arith, Option, Some, None, eqb-true, eq-eqb}
 use Rattle.std.proofs.lemmas.Bool.{and_parts, cases_Bool}
 use Rattle.std.proofs.lemmas.Bool.Decides.{nat_tests}
 use Rattle.ec_attr.specs.declared.head.Head.{Head}
 use Rattle.ec_attr.specs.declared.kind.Kind.{Kind}
 use Rattle.ec_attr.specs.declared.kind.Kind.TheVariants.{File, Dir}
-use Rattle.ec_attr.specs.declared.policy.Policy.{Policy}
-use Rattle.ec_attr.specs.declared.policy.Policy.TheVariants.{RoundRobin, GfidHash}
-use Rattle.std.proofs.Math.Nat.{mod-lt}
 use Rattle.ec_attr.specs.declared.kind.LockKind.TheVariants.{Exclusive}
 use Rattle.ec_answers.specs.declared.grouped.Group.{Group}
 use Rattle.ec_answers.specs.declared.grouped.Grouped.{Grouped}
@@ -50,15 +47,14 @@ use Rattle.ec_wire.specs.declared.request.Request.{Request}
 use Rattle.ec_write.specs.declared.stage.WriteStage.{WriteStage}
 use Rattle.ec_write.specs.declared.stage.WriteStage.TheVariants.{Opens, Votes, Reads, Writes}
 use Rattle.ec_write.specs.During.{DuringWrite, InWrite, IsBetween, IsFresh, IsReadingOf, IsSized, IsWritingOf, KnowsFirst, KnowsLast, count_at, first_at, last_at}
-use Rattle.ec_write.specs.Range.{count_stripes, data_of, first_stripe, off_of, reads_first, reads_last, told_end}
+use Rattle.ec_write.specs.Range.{count_stripes, data_of, off_of, reads_first, reads_last, told_end}
 use Rattle.ec_write.specs.Stripes.{IsDecoded, count_gave}
-use Rattle.ec_write.specs.Write.{AfterRead, GoesOn, IsWrite, is_short, read_asks, start_by, start_of, ReadEnds, WriteJudges, asks_of, first_of, judged, reading_of, reads_again, says_size, second_of, write_table}
-use Rattle.ec_write.specs.Between.{between_pre, between_read, between_unlocked, old_read, old_unlocked, reads_begin, unread_pre, unread_read, unread_unlocked}
+use Rattle.ec_write.specs.Write.{AfterRead, GoesOn, IsWrite, is_short, ReadEnds, WriteJudges, asks_of, first_of, judged, reading_of, reads_again, says_size, second_of, write_table}
+use Rattle.ec_write.specs.Between.{between_pre, fresh_over, start_asks, between_read, between_unlocked, old_read, old_unlocked, reads_begin, unread_pre, unread_read, unread_unlocked}
 use Rattle.ec_write.specs.Between as between
 use Rattle.ec_write.specs.Numbers.{count_some, stripes_few}
 use Rattle.ec_write.specs.Olds.{decoded_old}
-use Rattle.ec_write.specs.Sendings.{write_may}
-use Rattle.ec_write.specs.Windows.{mild_ask, mild_query, never, IsMild}
+use Rattle.ec_write.specs.Sendings.{write_fills, write_may}
 use Rattle.ec_write.specs.Writings.{of_write, post_after, size_fits, wide, writes_begin, writing_on}
 
 go_same : (a b : WriteStage) → Go a ≡ Go b → a ≡ b
@@ -163,55 +159,29 @@ short_asks stage d v dg sized P h =
     let t : is_short d.given.op ≡ true = grind (arith, nat_tests) in
     subst P (sym (ap (λ (b : Bool). where_so b (ballot_asks stage d)) t)) h
 
--- the brick from which on a call chooses is one of the volume
-start_small : (p : Policy) (call g n : ℕ) → 0 < n → n ≤ 31 → start_by p call g n < 31
-start_small RoundRobin call g n pos most = let l : (call - 1) % n < n = mod-lt (call - 1) pos in omega (arith, l, most)
-start_small GfidHash call g n pos most = let l : g % n < n = mod-lt g pos in omega (arith, l, most)
-
--- so a stage that reads asks all that it is to ask
-start_asks : (x : Ctx) (g : ℕ) (group : Group) (reading : Reading) (d : Account) → reading ≡ reading_of x g group reading.first → (P : Asks → Type 0) → P (reading_asks reading d) → P (read_asks reading d)
-start_asks x g group reading d is P h =
-    let same : reading.start ≡ start_of x g = ap (λ (r : Reading). r.start) is in
-    let few : start_of x g < 31 = (let a = x.geometry.majority in let b = x.geometry.bricks in start_small x.policy x.call g x.geometry.n (omega (arith, a)) b) in
-    let less : reading.start < 31 = omega (arith, same, few) in
-    let t : nat_lt reading.start 31 ≡ true = grind (arith, nat_tests) in
-    subst P (sym (ap (λ (b : Bool). where_so b (reading_asks reading d)) t)) h
-
 -- The stages of the opening.
 abbrev InOpens : WriteStage → Account → Asks → Type 0
 InOpens (Opens stage) c f = InOpening Exclusive stage c f
 InOpens stage c f = ⊥
 
--- nothing is touched as the call opens
-fresh_over : (v : Given) (stage : Opening) (c : Account) (f : Asks) (d e : Account) → c.given ≡ v → InOpening Exclusive stage c f → IsFresh v c → IsRound (subject v.op) c f d → IsIdle d → IsUnlocked (subject v.op) d e → IsFresh v e
-fresh_over v stage c f d e cg k fresh r idle u = (
-  λ y. ap (tried is_write) (u.window y) ∙ never is_write (subject v.op) c f d r idle (mild is_write (λ g. refl) (λ g i. refl) stage k) y (fresh.0 y),
-  λ y s l. ap (tried (is_read_from s)) (u.window y) ∙ never (is_read_from s) (subject v.op) c f d r idle (mild (is_read_from s) (λ g. refl) (λ g i. refl) stage k) y (fresh.1 y s l),
-)
-  where
-    mild : (p : Request → Bool) → ((g : ℕ) → p (Rattle.ec_wire.specs.declared.request.Request.TheVariants.Ask (record { 0 = g }) Rattle.ec_attr.specs.declared.kind.Domain.TheVariants.Inode Exclusive) ≡ false) → ((g i : ℕ) → p (Rattle.ec_wire.specs.declared.request.Request.TheVariants.Query (record { 0 = g }) i) ≡ false)
-        → (o : Opening) → InOpening Exclusive o c f → (y : ℕ) (q : Request) → f y ≡ Some q → IsMild p q
-    mild p ask query (Lock brick) h y q t = subst (IsMild p) (sym (h.asks y q t).1) (mild_ask p (subject c.given.op) Exclusive (ask (subject c.given.op)))
-    mild p ask query Query h y q t = (let w = h.asks y q t in subst (IsMild p) (sym w.4) (mild_query p (subject c.given.op) w.1.number (query (subject c.given.op) w.1.number)))
-
-module _ (x : Ctx) (group : Group) (d e : Account) (dg : d.given ≡ e.given) (u : IsUnlocked (subject e.given.op) d e) (b : IsBetween e.given e group) (sized : IsSized e.given.op) where
+module _ (x : Ctx) (group : Group) (d e : Account) (dg : d.given ≡ e.given) (u : IsUnlocked (subject e.given.op) d e) (b : IsBetween e.given e group) (sized : IsSized e.given.op) (full : 0 < length (data_of e.given.op)) where
   -- the new stripes are written
   goes_none : (front back : List (List ℕ)) (q : WriteStage) → KnowsFirst e.given e group front → KnowsLast e.given e group back → GoesOn x e.given.geometry e.given.op group front back None (Go q) → InWrite x q e (asks_of q d)
   goes_none front back q first last w =
-      subst (λ (o : WriteStage). InWrite x o e (asks_of o d)) (sym (go_same q (Writes group w.0) w.2)) (writes_begin e.given group w.0 front back d e dg u b w.1 first last)
+      subst (λ (o : WriteStage). InWrite x o e (asks_of o d)) (sym (go_same q (Writes group w.0) w.2)) (full, writes_begin e.given group (λ z. off_of z.op) (data_of e.given.op) group.head.size w.0 front back (asks_of (Writes group w.0) d) d e dg u b w.1 first last (λ y. refl))
 
   -- a stripe is read
   goes_some : (front back : List (List ℕ)) (s : ℕ) (q : WriteStage) → Rattle.ec_write.specs.During.IsUnread (subject e.given.op) s e → Rattle.ec_write.specs.During.IsPlaced e.given e group front s → s + 1 ≤ 2 ^ 30
       → GoesOn x e.given.geometry e.given.op group front back (Some s) (Go q) → InWrite x q e (asks_of q d)
   goes_some front back s q un placed few w =
       subst (λ (o : WriteStage). InWrite x o e (asks_of o d)) (sym (go_same q (Reads group (reading_of x (subject e.given.op) group s) front) w))
-      (start_asks x (subject e.given.op) group (reading_of x (subject e.given.op) group s) d refl (IsReadingOf x e.given e group (reading_of x (subject e.given.op) group s) front) (reads_begin x e.given group s front d e dg u b un placed few))
+      (start_asks x (subject e.given.op) group (reading_of x (subject e.given.op) group s) d refl (IsReadingOf x e.given e group (reading_of x (subject e.given.op) group s) front) (record { one = reads_begin x e.given group s d e dg u b un few; some = full; placed = placed }))
 
   few : first_at e.given + count_at e.given ≤ 2 ^ 30
   few = stripes_few (quorum_of e.given) (off_of e.given.op) (length (data_of e.given.op)) (wide e.given) sized.1
 
   some : 0 < count_at e.given
-  some = count_some (quorum_of e.given) (off_of e.given.op) (length (data_of e.given.op)) (let z = wide e.given in omega (arith, z)) b.some
+  some = count_some (quorum_of e.given) (off_of e.given.op) (length (data_of e.given.op)) (let z = wide e.given in omega (arith, z)) full
 
   needs_last : Bool
   needs_last = reads_last (quorum_of e.given) (off_of e.given.op) (length (data_of e.given.op)) group.head.size
@@ -252,11 +222,11 @@ module _ (x : Ctx) (group : Group) (d e : Account) (dg : d.given ≡ e.given) (u
 module _ (x : Ctx) (group : Group) (reading : Reading) (front : List (List ℕ)) (c : Account) (f : Asks) (d e : Account) (cg : c.given ≡ e.given) (dg : d.given ≡ e.given) (l : IsReadingOf x e.given c group reading front f) (r : IsRound (subject e.given.op) c f d) (idle : IsIdle d)
     (u : IsUnlocked (subject e.given.op) d e) (sized : IsSized e.given.op) (stripe : List (List ℕ)) (k : IsDecoded e.given.geometry reading (places_of d (subject e.given.op)) (replied d (subject e.given.op)) stripe) where
   b : IsBetween e.given e group
-  b = between_unlocked e.given group d e u (between_read x e.given group reading front c f d l cg r idle)
+  b = between_unlocked e.given group d e u (between_read x e.given group reading c f d l.one cg r idle)
 
   -- what was decoded
   old_is : IsOld e (subject e.given.op) reading.first group.head stripe
-  old_is = old_unlocked (subject e.given.op) reading.first group.head stripe d e u (decoded_old x e.given group reading front c f d l cg r idle stripe k)
+  old_is = old_unlocked (subject e.given.op) reading.first group.head stripe d e u (decoded_old x e.given group reading c f d l.one cg r idle stripe k)
 
   goes_read : (t : Bool) (q : WriteStage) → (reading.first == first_at e.given) ≡ t → AfterRead t x e.given.geometry e.given.op group front stripe (Go q) → InWrite x q e (asks_of q d)
   goes_read true q same w =
@@ -265,18 +235,18 @@ module _ (x : Ctx) (group : Group) (reading : Reading) (front : List (List ℕ))
       elim (cases_Bool (nat_lt 1 (count_at e.given))) [
         | inl t ↦
             let later : reading.first < last_at e.given = (let y : 1 < count_at e.given = grind (arith, nat_tests) in omega (arith, z, y)) in
-            goes_second x group d e dg u b sized stripe q (unread_unlocked (subject e.given.op) (last_at e.given) d e u (unread_read x e.given group reading front c f d l cg r idle (last_at e.given) later)) first w
+            goes_second x group d e dg u b sized l.some stripe q (unread_unlocked (subject e.given.op) (last_at e.given) d e u (unread_read x e.given group reading c f d l.one cg r idle (last_at e.given) later)) first w
         | inr t ↦
             let none : reads_last (quorum_of e.given) (off_of e.given.op) (length (data_of e.given.op)) group.head.size ≡ false = (rw t refl) in
-            goes_none x group d e dg u b sized stripe [] q first (λ y. absurd (differ (sym y ∙ none)))
+            goes_none x group d e dg u b sized l.some stripe [] q first (λ y. absurd (differ (sym y ∙ none)))
             (subst (λ (y : Bool). GoesOn x e.given.geometry e.given.op group stripe [] (cond y (Some (last_at e.given)) None) (Go q)) none w)
       ]
   goes_read false q other w = ⊎_elim
       (λ z. absurd (differ (sym (eq-eqb reading.first (first_at e.given) z) ∙ other)))
       (λ z.
       let before : first_at e.given < reading.first = (let p = z.0 in let n = z.1 in omega (arith, p, n)) in
-      goes_none x group d e dg u b sized front stripe q
-      (λ t. old_unlocked (subject e.given.op) (first_at e.given) group.head front d e u (old_read x e.given group reading front c f d l cg r idle (first_at e.given) group.head front before (z.2 t)))
+      goes_none x group d e dg u b sized l.some front stripe q
+      (λ t. old_unlocked (subject e.given.op) (first_at e.given) group.head front d e u (old_read x e.given group reading c f d l.one cg r idle (first_at e.given) group.head front before (z.2 t)))
       (λ t. subst (λ (s : ℕ). IsOld e (subject e.given.op) s group.head stripe) z.0 old_is)
       w)
       l.placed
@@ -332,8 +302,8 @@ goes x given p q c f d e a l r idle follows b u = (sized, go p q l.1 follows)
         (λ v. absurd (go_say o (NoQuorum PrePhase (count_serving d group)) v.1))
         (λ v.
         let fresh : IsFresh e.given c = subst (λ (z : Given). IsFresh z c) cg k.2 in
-        let between_d = between_pre e.given group c f d k.0 cg re idle (subst (λ (z : Given). 0 < length (data_of z.op)) cg k.1) fresh.0 in
-        goes_first x group d e dg ue (between_unlocked e.given group d e ue between_d) sized o
+        let between_d = between_pre e.given group c f d k.0 cg re idle fresh.0 in
+        goes_first x group d e dg ue (between_unlocked e.given group d e ue between_d) sized (subst (λ (z : Given). 0 < length (data_of z.op)) cg k.1) o
         (unread_unlocked (subject e.given.op) 0 d e ue (unread_pre e.given group 0 c f d k.0 re idle fresh.1))
         (subst (λ (z : Given). GoesOn x z.geometry z.op group [] [] (first_of z.geometry z.op group) (Go o)) dg v.1)) w
     go (Votes (Post group)) o k w = ⊎_elim
@@ -350,7 +320,7 @@ goes x given p q c f d e a l r idle follows b u = (sized, go p q l.1 follows)
         (λ v. absurd (go_say o (NoQuorum WritePhase (count_serving d group)) v.1))
         (λ v.
         let l : IsWritingOf e.given c group lists f = subst (λ (z : Given). IsWritingOf z c group lists f) cg k in
-        subst (λ (s : WriteStage). InWrite x s e (asks_of s d)) (sym (go_same o (Votes (Post group)) v.1)) (short_asks (Post group) d e.given dg sized (InBallot (Post group) e) (post_after group lists c f d e l dg re idle ue sized v.0 (size_of group.head l.between.within)))) w
+        subst (λ (s : WriteStage). InWrite x s e (asks_of s d)) (sym (go_same o (Votes (Post group)) v.1)) (short_asks (Post group) d e.given dg sized (InBallot (Post group) e) (post_after group lists c f d e l dg re idle ue sized v.0 (size_of group.head l.1.between.within)))) w
 
 lock_says : (s t : Bool) (p q : WriteStage) (answer r : Answer) → Say answer ≡ cond s (Go p) (cond t (Go q) (Say r)) → answer ≡ r
 lock_says true t p q answer r e = absurd (go_say p answer (sym e))
@@ -418,8 +388,8 @@ again : (x : Ctx) (given : Given) (p : WriteStage) (c : Account) (f : Asks) (d :
     → DuringWrite x p c (joined f (asks_of p d)) × IsMore (subject given.op) c f (asks_of p d)
 again x given (Reads group reading front) c f d t a l r =
     let k : IsReadingOf x given c group reading front f = subst (λ (v : Given). IsReadingOf x v c group reading front f) a.given_is l.1 in
-    start_asks x (subject given.op) group reading d k.reading_is (λ (h : Asks). DuringWrite x (Reads group reading front) c (joined f h) × IsMore (subject given.op) c f h)
-    ((l.0, subst (λ (v : Given). IsReadingOf x v c group reading front (joined f (reading_asks reading d))) (sym a.given_is) (between.reads_again x given group reading front c f d a k r)), (law x given reading c f d a k.asks r).1)
+    start_asks x (subject given.op) group reading d k.one.reading_is (λ (h : Asks). DuringWrite x (Reads group reading front) c (joined f h) × IsMore (subject given.op) c f h)
+    ((l.0, subst (λ (v : Given). IsReadingOf x v c group reading front (joined f (reading_asks reading d))) (sym a.given_is) (record { one = between.reads_again x given group reading c f d a k.one r; some = k.some; placed = k.placed })), (law x given reading c f d a k.one.asks r).1)
 again x given (Opens stage) c f d t a l r = absurd (differ (sym t))
 again x given (Votes stage) c f d t a l r = absurd (differ (sym t))
 again x given (Writes group lists) c f d t a l r = absurd (differ (sym t))
@@ -431,9 +401,9 @@ on x given (Votes (Post group)) c f a l = ballot_on x given (Post group) c f a l
 on x given (Votes (Clear group)) c f a l = ballot_on x given (Clear group) c f a l.1
 on x given (Reads group reading front) c f a l =
     let k : IsReadingOf x given c group reading front f = subst (λ (v : Given). IsReadingOf x v c group reading front f) a.given_is l.1 in
-    fetch_on (subject given.op) (bricks_of given) (c.on (subject given.op)).queried c f (reading_fetches (subject given.op) (bricks_of given) reading c f k.asks)
+    fetch_on (subject given.op) (bricks_of given) (c.on (subject given.op)).queried c f (reading_fetches (subject given.op) (bricks_of given) reading c f k.one.asks)
 on x given (Writes group lists) c f a l =
-    writing_on given group lists c f (c.on (subject given.op)).queried (subst (λ (v : Given). IsSized v.op) a.given_is l.0) (subst (λ (v : Given). IsWritingOf v c group lists f) a.given_is l.1)
+    writing_on given group (off_of given.op) (data_of given.op) group.head.size lists c f (c.on (subject given.op)).queried (subst (λ (v : Given). IsSized v.op) a.given_is l.0).1 (subst (λ (v : Given). IsWritingOf v c group lists f) a.given_is l.1).1
 
 -- what the commit of a write is made of is told by what is over
 steady : (v w : Given) (g : ℕ) (head : Head) (c d : Account) (rs : List Request) → c.given ≡ v → d.given ≡ v → IsWrite v.op → IsAllOf c g head v.op rs → IsAllOf d g head v.op rs
@@ -458,10 +428,10 @@ may x given p c f h d a l s part b r e n = go p l.1
     go (Votes (Clear group)) k = ballot_may c holds x given (Clear group) f h d a k s part b r e n
     go (Reads group reading front) k =
         let z : IsReadingOf x given c group reading front f = subst (λ (v : Given). IsReadingOf x v c group reading front f) a.given_is k in
-        fetch_may x given c f h d a (reading_fetches (subject given.op) (bricks_of given) reading c f z.asks) s b r e n
+        fetch_may x given c f h d a (reading_fetches (subject given.op) (bricks_of given) reading c f z.one.asks) s b r e n
     go (Writes group lists) k =
-        write_may x group lists c f h d (subst (λ (v : Given). IsIn x v c) (sym dg) a) (subst (λ (v : Given). IsWritingOf v c group lists f) (sym s.given) k) (subst (λ (v : Given). IsSized v.op) (sym s.given) l.0)
-        (subst (λ (v : Given). IsSent (subject v.op) c h d) (sym dg) s) part b r e n
+        write_may x group (off_of d.given.op) (data_of d.given.op) group.head.size lists c f h d (subst (λ (v : Given). IsIn x v c) (sym dg) a) (subst (λ (v : Given). IsWritingOf v c group lists f) (sym s.given) k).1
+        (write_fills d.given.op (subst (λ (v : Given). IsSized v.op) (sym s.given) l.0).0 group.head.size) (subst (λ (v : Given). IsSent (subject v.op) c h d) (sym dg) s) part b r e n
 
 pub write_sound : (x : Ctx) → IsSound x (write_table x) (DuringWrite x)
 write_sound x = record {

@@ -1,5 +1,6 @@
-// Where the bytes of a write lie among the stripes of its file, and which stripes it has to read.
+// Where bytes lie among the stripes of a file, and which stripes a write has to read.
 ghost use Rattle.std.specs.Prelude.{◌≡◌, ◌*◌, ◌^◌, ◌<◌, ◌≤◌};
+ghost use Rattle.ec_conduct.specs.Changes.{stripes_of};
 ghost use Rattle.ec_stripe.specs.Span.{stripe_bytes as stripe_bytes_of};
 ghost use Rattle.ec_write.specs.Range.{count_stripes, first_read, first_stripe, head_of, kept_bytes, reach, reads_first, reads_last, second_read, told_end};
 
@@ -108,4 +109,13 @@ pub fn told_end(off: u64, len: usize) -> u64
     ensures { result ≡ told_end off len }
 {
     off.saturating_add(len as u64)
+}
+
+/// How many stripes hold so many bytes.
+pub fn stripes_of(k: u8, size: u64) -> u64
+    requires { 0 < k }
+    ensures { result ≡ stripes_of k size }
+{
+    let bytes = u128::from(stripe_bytes(k));
+    ((u128::from(size) + (bytes - 1)) / bytes) as u64
 }

@@ -1,4 +1,4 @@
-// The stages of a write.
+// The stages of a write and of a truncate.
 
 use ec_answers::Group;
 use ec_txn::{Ballot, Opening, Reading};
@@ -19,5 +19,27 @@ pub enum WriteStage {
     Writes {
         group: Group,
         lists: ItemList<ChunkList>,
+    },
+}
+
+/// The stages of a truncate. Between PreOp and PostOp it reads and writes the stripe in which the lesser of both sizes
+/// lies, where that is on no border, and then cuts.
+#[derive(Debug, Drop)]
+pub enum TruncateStage {
+    Opens(Opening),
+    Votes(Ballot),
+    /// The stripe is read.
+    Reads {
+        group: Group,
+        reading: Reading,
+    },
+    /// It is written, zeros in place of its tail.
+    Writes {
+        group: Group,
+        lists: ItemList<ChunkList>,
+    },
+    /// The chunks past the lesser size become zeros, and the fragments get their new length.
+    Cuts {
+        group: Group,
     },
 }

@@ -1,5 +1,7 @@
-// Writes on three and six bricks, reply by reply.
+// Writes on three and six bricks, reply by reply; `cut` has the truncates.
 ghost use Rattle.std.specs.Prelude.{◌<◌, ◌^◌};
+
+mod cut;
 
 use crate::rows::PlainRows;
 use crate::{WriteCall, begin_write};

@@ -18,17 +18,18 @@ ghost use Rattle.ec_txn.specs.Tables.{IsOf, Sees};
 ghost use Rattle.ec_wire.specs.declared.op.Op.{Op as OpOf};
 ghost use Rattle.ec_wire.specs.declared.op.Op.TheVariants.{Write as WriteOp};
 ghost use Rattle.ec_write.specs.Stripes.{list_at as list_of};
-ghost use Rattle.ec_write.specs.Write.{GoesOn, Prepares, ReadEnds, WriteFollows, WriteJudges, asks_of, is_short, judged, new_size, read_asks, reading_of as reading_at, start_of as start_at, write_asks, write_request};
+ghost use Rattle.ec_write.specs.Write.{GoesOn, Prepares, ReadEnds, WriteFollows, WriteJudges, asks_of, is_short, judged, new_size, read_asks, write_asks, write_request};
 ghost use Rattle.ec_write.specs.Range.{first_stripe as first_stripe_of};
 ghost use Rattle.ec_write.specs.declared.stage.WriteStage.TheVariants.{Opens, Votes, Writes};
 
 use crate::code::coded;
+use crate::members::{chunk_asked, chunks_sent, reading_of};
 use crate::old::{count_gave, old_stripe};
 use crate::place::{first_read, first_stripe, second_read, told_end};
 use crate::rows::PlainRows;
 use crate::stage::WriteStage;
 use ec_answers::{Group, Grouped};
-use ec_attr::{Blob, Gfid, Kind, LockKind, Policy};
+use ec_attr::{Blob, Gfid, Kind, LockKind};
 use ec_bank::RowTimes;
 use ec_field::Chunk;
 use ec_txn::{
@@ -61,30 +62,6 @@ fn opens(next: Next<Opening>) -> Next<WriteStage>
     match next {
         Next::Go(stage) => Next::Go(WriteStage::Opens(stage)),
         Next::Say(answer) => Next::Say(answer),
-    }
-}
-
-/// The brick from which on K bricks are chosen.
-fn start_of(ctx: &Ctx, gfid: Gfid) -> u8
-    ensures value { result ≡ start_at ctx.now gfid.0 }
-    ensures below { result < 31 }
-{
-    let bricks = ctx.geometry.n;
-    match ctx.policy {
-        Policy::RoundRobin => (ctx.call.saturating_sub(1) % u32::from(bricks)) as u8,
-        Policy::GfidHash => (gfid.0 % u128::from(bricks)) as u8,
-    }
-}
-
-/// One stripe is read from the bricks of the group.
-fn reading_of(ctx: &Ctx, gfid: Gfid, group: &Group, stripe: u64) -> Reading
-    ensures { result ≡ reading_at ctx.now gfid.0 group.now stripe }
-{
-    Reading {
-        among: group.bricks,
-        start: start_of(ctx, gfid),
-        first: stripe,
-        count: 1,
     }
 }
 
@@ -271,7 +248,7 @@ impl Write {
 }
 
 impl Write {
-    /// What a stage that reads asks of a brick. A brick from which a stage was begun is below 31.
+    /// What a stage that reads asks of a brick.
     fn read(
         &self,
         ctx: &Ctx,
@@ -282,10 +259,7 @@ impl Write {
         requires { brick < 31 }
         ensures { IfOk result (λ request. (c : Account) → c.given.op ≡ WriteOp self.now.gfid self.now.off self.now.bytes → IsOf ctx.now c.given → Shows (subject c.given.op) (bricks_of c.given) known.now c → request ≡ read_asks reading.now c brick) }
     {
-        if reading.start >= 31 {
-            return Ok(None);
-        }
-        Ok(reading.request(ctx, self.gfid, known, brick))
+        Ok(chunk_asked(ctx, self.gfid, reading, known, brick))
     }
 
     /// Whether the range ends at byte 2^40 at most.
@@ -308,39 +282,6 @@ impl Write {
     }
 }
 
-/// The chunks of a brick.
-fn list_at(alloc: Global, lists: &ItemList<ChunkList>, brick: u8) -> Result<ChunkList, AllocError>
-    ensures { IfOk result (λ list. list ≡ list_of lists.now brick) }
-{
-    if usize::from(brick) < lists.len() {
-        lists.items()[usize::from(brick)].copy()
-    } else {
-        Ok(ChunkList::new(alloc))
-    }
-}
-
-/// The grant of a brick that did all that it was sent in this window.
-fn serving(known: &Known, brick: u8) -> Option<u64>
-    ensures { result ≡ serving_by (place_at known.now.places.items brick) }
-{
-    let place = known.place(brick);
-    if place.failed {
-        return None;
-    }
-    match place.lock {
-        Some(lock) if lock.granted => Some(lock.number),
-        _ => None,
-    }
-}
-
-/// Whether a brick is of the group or one of its sinks.
-fn is_member(group: &Group, brick: u8) -> bool
-    requires { brick < 31 }
-    ensures { result ≡ is_some (version_at group.now brick) }
-{
-    group.bricks.has(brick) || group.sinks.has(brick)
-}
-
 impl Write {
     fn write_by(
         &self,
@@ -354,18 +295,8 @@ impl Write {
         ensures { IfOk result (λ request. request ≡ cond (is_within group.now.head && nat_lt brick ctx.now.geometry.n)
             (under (serving_by (place_at known.now.places.items brick)) (version_at group.now brick) (write_request self.now.gfid.0 (first_stripe_of (ctx.now.geometry.n - ctx.now.geometry.r) self.now.off) (list_of lists.now brick))) None) }
     {
-        if !is_within(&group.head) || brick >= ctx.geometry.n || !is_member(group, brick) {
-            return Ok(None);
-        }
-        match serving(known, brick) {
-            Some(grant) => Ok(Some(Request::WriteChunks {
-                gfid: self.gfid,
-                grant,
-                first: first_stripe(ctx.geometry.k(), self.off),
-                chunks: list_at(*known.places.allocator(), lists, brick)?,
-            })),
-            None => Ok(None),
-        }
+        let first = first_stripe(ctx.geometry.k(), self.off);
+        chunks_sent(ctx, self.gfid, first, group, lists, known, brick)
     }
 
     /// The chunks of a brick that did all so far.

@@ -1,6 +1,6 @@
 -- A call comes back to its slot, or is answered.
 use Rattle.std.proofs.Common.{◌≡◌, ◌≢◌, ◌⊎◌, inl, inr, ⊎_elim, ℕ, zero, suc, ◌+◌, ◌<◌, ◌≤◌, Bool, true, false, cond, not, Option, Some, None, List, [], ◌∷◌, ◌++◌, length, refl, sym, ◌∙◌, ap, subst, arith, append_assoc, append-nil}
-use Rattle.std.specs.Prelude.{All, slice_get}
+use Rattle.std.specs.Prelude.{All, is_some, slice_get}
 use Rattle.ec_attr.specs.declared.geometry.Geometry.{Geometry}
 use Rattle.ec_brick.specs.Fit.{IsFit, IsFitReply}
 use Rattle.ec_store.specs.Put.{put}
@@ -45,7 +45,7 @@ use Rattle.ec_clients.specs.declared.options.Options.{Options}
 use Rattle.ec_clients.proofs.Entries.{calls_end, heard_idle, heard_own, heard_made, heard_moves, left_made, left_moves}
 use Rattle.ec_clients.proofs.Frames.{said_is}
 use Rattle.ec_clients.proofs.Goings.{child_is, said_append}
-use Rattle.ec_clients.proofs.Moves.{Moved, SameBut, calls_move, calls_same, keeps_front}
+use Rattle.ec_clients.proofs.Moves.{Moved, SameBut, account_more, calls_move, calls_same, keeps_front}
 use Rattle.ec_clients.proofs.Places.{either, out_ends, out_moves, put_back, put_here, put_is, put_other, some_is, take_out}
 
 module _ {C : Type 0} (stands : Ctx → Given → C → List Own → Type 0) (by_table : Ctx → Given → List Own → Type 0) (keeps : (x : Ctx) (given : Given) (call : C) (es : List Own) → stands x given call es → Keeps given es) (tables : (x : Ctx) (given : Given) (call : C) (es : List Own) → stands x given call es → by_table x given es) where
@@ -86,12 +86,17 @@ module _ {C : Type 0} (stands : Ctx → Given → C → List Own → Type 0) (by
       same_child : h.child ≡ made.child
       same_child = child_is c.options h.asker.op h.child made.child (some_is _ _ (sym h.begun ∙ made.begun))
 
-      has_ended : HasEnded by_table c.options (ledger after_it) a h.asker
+      has_ended : HasEnded stands by_table c.options (ledger after_it) a h.asker
       has_ended = record {
         child = h.child;
         begun = h.begun;
         tabled = subst (λ (z : ℕ). by_table (ctx_of c.options a z h.child) (begun_with c.options h.asker.op h.child) (after_it.books.own a)) (sym h.of_client)
             (subst (by_table (ctx_of c.options a j h.child) (begun_with c.options h.asker.op h.child)) (sym (put_here p.books.own a (p.books.own a ++ Answers answer ∷ []))) (tables _ _ call _ h.meets));
+        call = call;
+        stood = subst (λ (z : ℕ). stands (ctx_of c.options a z h.child) (begun_with c.options h.asker.op h.child) call (after_it.books.own a)) (sym h.of_client)
+            (subst (stands (ctx_of c.options a j h.child) (begun_with c.options h.asker.op h.child) call) (sym (put_here p.books.own a (p.books.own a ++ Answers answer ∷ []))) h.meets);
+        over = subst (λ (es : List Own). is_some (account (begun_with c.options h.asker.op h.child) es).answer ≡ true) (sym (put_here p.books.own a (p.books.own a ++ Answers answer ∷ [])))
+            (λ i. is_some (account_more (begun_with c.options h.asker.op h.child) (p.books.own a) (Answers answer) i).answer);
       }
 
       pub is_answered : Seen stands by_table t c None after_it

@@ -196,6 +196,9 @@ module _ {C : Type 0} (stands : Ctx → Given → C → List Own → Type 0) (by
   pub heard_below : size_of s ≡ c.options.geometry.n → (p : Come) → Seen stands by_table s c None p → All (λ (x : Send). x.0 < size_of t) sends
   heard_below size p h = subst (λ (n : ℕ). All (λ (x : Send). x.0 < n) sends) (sym (adv.size ∙ size)) (it_adds stands by_table keeps s t c d i j b re reply r call sends answer flies_here sound adv_here was awaits_here same at lives adds_here p h).below
 
+  pub heard_to : (p : Come) → Seen stands by_table s c None p → All (λ (x : Send). x.0 < c.options.geometry.n) sends
+  heard_to p h = (it_adds stands by_table keeps s t c d i j b re reply r call sends answer flies_here sound adv_here was awaits_here same at lives adds_here p h).below
+
   pub heard_fit : (p : Come) → Seen stands by_table s c None p → All (λ (x : Send). IsFit x.1) sends
   heard_fit p h = (it_adds stands by_table keeps s t c d i j b re reply r call sends answer flies_here sound adv_here was awaits_here same at lives adds_here p h).fit
 

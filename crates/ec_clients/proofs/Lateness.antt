@@ -29,10 +29,11 @@ use Rattle.ec_clients.specs.Owned.{AreOwned, IsOwned, Sees}
 use Rattle.ec_clients.specs.Steps.{Breaks, Goes, Seen}
 use Rattle.ec_clients.specs.Views.{is_dead_at, is_released}
 use Rattle.ec_clients.specs.declared.clients.Clients.{Clients}
+use Rattle.ec_clients.proofs.Booking.{sees_come}
 use Rattle.ec_clients.proofs.Goings.{goes_off, goes_on, said_append}
 use Rattle.ec_clients.proofs.Idling.{below_next, clients_same, idle_goes}
 use Rattle.ec_clients.proofs.Moves.{SameBut}
-use Rattle.ec_clients.proofs.Owning.{heard_asker, owned_all}
+use Rattle.ec_clients.proofs.Owning.{heard_asker}
 use Rattle.ec_clients.proofs.Places.{put_is, some_is}
 
 module _ {C : Type 0} (stands : Ctx → Given → C → List Own → Type 0) (by_table : Ctx → Given → List Own → Type 0) where
@@ -85,12 +86,12 @@ module _ {C : Type 0} (stands : Ctx → Given → C → List Own → Type 0) (by
     abbrev pub Knows : Come → Type 0
     Knows p = Sees stands by_table t c p × IsOwned p.net.asker a j
 
-    pub again_goes : is_dead_at c j ≡ false → Goes c.options.geometry Knows (Sees stands by_table u c) t u (Sent msg ∷ [])
-    again_goes lives = record {
+    pub again_goes : b < size_of t → is_dead_at c j ≡ false → Goes c.options.geometry Knows (Sees stands by_table u c) t u (Sent msg ∷ [])
+    again_goes below lives = record {
       log = adv.log;
       size = adv.size;
       sound = adv.sound;
-      leads = λ p h. record { seen = again_seen p h.0.seen; owned = owned_all (Sent msg ∷ []) p.net (λ q e. h.1, tt) h.0.owned };
+      leads = λ p h. sees_come stands by_table t u c c c.options.geometry (Sent msg ∷ []) p adv.size (λ q e. h.1, tt) (below, tt) (again_seen p h.0.seen) h.0;
       runs = λ records p h m. adv.runs records p.net m (record { asker = h.1.asker; made = h.1.made; of_client = h.1.of_client; lives = h.0.seen.clients.dead j ∙ lives });
     }
 
@@ -112,7 +113,7 @@ module _ {C : Type 0} (stands : Ctx → Given → C → List Own → Type 0) (by
       log = one.log;
       size = one.size;
       sound = one.sound;
-      leads = λ p h. (record { seen = one.leads p h.seen; owned = owned_all (Heard i ∷ []) p.net (tt, tt) h.owned }, subst (λ (f : ℕ → _). IsOwned f a j) (sym (heard_asker p.net (p.net.said i))) (owner p h));
+      leads = λ p h. (sees_come stands by_table s t c c c.options.geometry (Heard i ∷ []) p adv.size (tt, tt) (tt, tt) (one.leads p h.seen) h, subst (λ (f : ℕ → _). IsOwned f a j) (sym (heard_asker p.net (p.net.said i))) (owner p h));
       runs = λ records p h m. one.runs records p h.seen m;
     }
 
@@ -130,7 +131,7 @@ module _ {C : Type 0} (stands : Ctx → Given → C → List Own → Type 0) (by
 
     pub late_some : (u : Cluster) (g : Gfid) → next_of t ≡ next_of s → is_released c re ≡ true → ClusterAdvances (IsOfClient a j) t u (Sent (request_message (next_of t) a j b (Release g re)) ∷ []) → Goes c.options.geometry (Sees stands by_table s c) (Sees stands by_table u c) s u (Heard i ∷ Sent (request_message (next_of s) a j b (Release g re)) ∷ [])
     late_some u g next released more = subst (λ (es : List Entry). Goes c.options.geometry (Sees stands by_table s c) (Sees stands by_table u c) s u (Heard i ∷ es)) (next_same next g)
-        (goes_on c.options.geometry (Sees stands by_table s c) (λ p. Sees stands by_table t c p × IsOwned p.net.asker a j) (Sees stands by_table u c) s t u (Heard i ∷ []) (Sent (request_message (next_of t) a j b (Release g re)) ∷ []) heard_goes (again_goes t u c a j b re g adv.sound more released lives))
+        (goes_on c.options.geometry (Sees stands by_table s c) (λ p. Sees stands by_table t c p × IsOwned p.net.asker a j) (Sees stands by_table u c) s t u (Heard i ∷ []) (Sent (request_message (next_of t) a j b (Release g re)) ∷ []) heard_goes (again_goes t u c a j b re g adv.sound more released (subst (λ (n : ℕ). b < n) (sym adv.size) (sound.flies i (reply_message i a j b re there.reply) there.flies).brick) lives))
 
     pub late_off : (u : Cluster) → Breaks c.options.geometry (λ p. Sees stands by_table t c p × IsOwned p.net.asker a j) t u → Breaks c.options.geometry (Sees stands by_table s c) s u
     late_off u g = goes_off c.options.geometry (Sees stands by_table s c) (λ p. Sees stands by_table t c p × IsOwned p.net.asker a j) s t u (Heard i ∷ []) heard_goes g

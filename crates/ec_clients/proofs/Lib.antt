@@ -2,8 +2,11 @@ pub mod Finishing
 pub mod Frames
 pub mod Goings
 pub mod Sendings
+pub mod Asking
 pub mod Beginnings
+pub mod Booking
 pub mod Entries
+pub mod Gfids
 pub mod Hearings
 pub mod Idling
 pub mod Leavings

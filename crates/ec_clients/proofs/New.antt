@@ -69,4 +69,6 @@ module _ {C : Type 0} (stands : Ctx → Given → C → List Own → Type 0) (by
       };
     };
     owned = λ i m q e b. absurd (cc);
+    below = λ i m e. absurd (cc);
+    booked = record { asks = λ i m g domain kind e b. absurd (cc); releases = λ a b i n g has. absurd (let lt = has.1 in omega arith) };
   }

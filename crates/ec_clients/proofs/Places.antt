@@ -1,9 +1,10 @@
 -- The slots of the clients, as calls begin, take steps and are answered.
 use Rattle.std.proofs.Common.{◌≡◌, ◌≢◌, ◌⊎◌, inl, inr, ⊎_elim, ℕ, ◌+◌, ◌<◌, Bool, true, false, cond, ◌==◌, Option, Some, None, List, refl, sym, ◌∙◌, ap, subst, arith}
 use Rattle.std.proofs.lemmas.Bool.Decides.{nat_tests}
-use Rattle.std.specs.Prelude.{slice_get}
+use Rattle.std.specs.Prelude.{is_some, slice_get}
 use Rattle.ec_store.specs.Put.{put}
 use Rattle.ec_conduct.specs.Given.{Given}
+use Rattle.ec_conduct.specs.Opened.{account}
 use Rattle.ec_conduct.specs.Own.{Own}
 use Rattle.ec_history.specs.Run.{Asker}
 use Rattle.ec_txn.specs.declared.ctx.Ctx.{Ctx}
@@ -95,11 +96,11 @@ module _ {C : Type 0} (stands : Ctx → Given → C → List Own → Type 0) (by
     ended = λ x asker made yes.
         let ne : x ≢ a = λ f. absurd (let e : true ≡ false = sym yes ∙ ((λ i. ans i x) ∙ (ap l.answered f ∙ un)) in cc) in
         let old = h.ended x asker (sym (λ i. askers i x) ∙ made) (sym (λ i. ans i x) ∙ yes) in
-        record { child = old.child; begun = (λ i. givens i x) ∙ old.begun; tabled = subst (by_table (ctx_of o x asker.client old.child) (begun_with o asker.op old.child)) (sym (own x ne)) old.tabled };
+        record { child = old.child; begun = (λ i. givens i x) ∙ old.begun; tabled = subst (by_table (ctx_of o x asker.client old.child) (begun_with o asker.op old.child)) (sym (own x ne)) old.tabled; call = old.call; stood = subst (stands (ctx_of o x asker.client old.child) (begun_with o asker.op old.child) old.call) (sym (own x ne)) old.stood; over = subst (λ (es : List Own). is_some (account (begun_with o asker.op old.child) es).answer ≡ true) (sym (own x ne)) old.over };
   }
 
   -- a call that is out of its slot is answered
-  pub out_ends : (slots : List (Option (Running C))) (l k : Ledger) (a : ℕ) (asker : Asker) → OfSlots stands by_table o slots (Some a) l → k.asker ≡ l.asker → k.given ≡ l.given → k.answered ≡ put l.answered a true → ((x : ℕ) → x ≢ a → k.own x ≡ l.own x) → l.asker a ≡ Some asker → HasEnded by_table o k a asker → OfSlots stands by_table o slots None k
+  pub out_ends : (slots : List (Option (Running C))) (l k : Ledger) (a : ℕ) (asker : Asker) → OfSlots stands by_table o slots (Some a) l → k.asker ≡ l.asker → k.given ≡ l.given → k.answered ≡ put l.answered a true → ((x : ℕ) → x ≢ a → k.own x ≡ l.own x) → l.asker a ≡ Some asker → HasEnded stands by_table o k a asker → OfSlots stands by_table o slots None k
   out_ends slots l k a asker h askers givens ans own is ended =
       let rest : (x : ℕ) → x ≢ a → k.answered x ≡ l.answered x = λ x ne. (λ i. ans i x) ∙ put_other l.answered a true x ne in
       record {
@@ -110,10 +111,10 @@ module _ {C : Type 0} (stands : Ctx → Given → C → List Own → Type 0) (by
         ended = λ x other made yes. ⊎_elim
             (λ (f : x ≡ a).
             let same : Some asker ≡ Some other = sym is ∙ (sym (λ i. askers i a) ∙ (ap k.asker (sym f) ∙ made)) in
-            subst (λ (z : Asker). HasEnded by_table o k x z) (some_is asker other same) (subst (λ (z : ℕ). HasEnded by_table o k z asker) (sym f) ended))
+            subst (λ (z : Asker). HasEnded stands by_table o k x z) (some_is asker other same) (subst (λ (z : ℕ). HasEnded stands by_table o k z asker) (sym f) ended))
             (λ ne.
             let old = h.ended x other (sym (λ i. askers i x) ∙ made) (sym (rest x ne) ∙ yes) in
-            record { child = old.child; begun = (λ i. givens i x) ∙ old.begun; tabled = subst (by_table (ctx_of o x other.client old.child) (begun_with o other.op old.child)) (sym (own x ne)) old.tabled })
+            record { child = old.child; begun = (λ i. givens i x) ∙ old.begun; tabled = subst (by_table (ctx_of o x other.client old.child) (begun_with o other.op old.child)) (sym (own x ne)) old.tabled; call = old.call; stood = subst (stands (ctx_of o x other.client old.child) (begun_with o other.op old.child) old.call) (sym (own x ne)) old.stood; over = subst (λ (es : List Own). is_some (account (begun_with o other.op old.child) es).answer ≡ true) (sym (own x ne)) old.over })
             (either x a);
       }
 
@@ -142,7 +143,7 @@ module _ {C : Type 0} (stands : Ctx → Given → C → List Own → Type 0) (by
         ended = λ x w made yes.
             let ne : x ≢ a = λ f. absurd (let e : true ≡ false = sym yes ∙ ((λ i. ans i x) ∙ (ap l.answered f ∙ un)) in cc) in
             let old = h.ended x w (sym ((λ i. askers i x) ∙ put_other l.asker a (Some asker) x ne) ∙ made) (sym (λ i. ans i x) ∙ yes) in
-            record { child = old.child; begun = (λ i. givens i x) ∙ (put_other l.given a (Some given) x ne ∙ old.begun); tabled = subst (by_table (ctx_of o x w.client old.child) (begun_with o w.op old.child)) (sym (λ i. own i x)) old.tabled };
+            record { child = old.child; begun = (λ i. givens i x) ∙ (put_other l.given a (Some given) x ne ∙ old.begun); tabled = subst (by_table (ctx_of o x w.client old.child) (begun_with o w.op old.child)) (sym (λ i. own i x)) old.tabled; call = old.call; stood = subst (stands (ctx_of o x w.client old.child) (begun_with o w.op old.child) old.call) (sym (λ i. own i x)) old.stood; over = subst (λ (es : List Own). is_some (account (begun_with o w.op old.child) es).answer ≡ true) (sym (λ i. own i x)) old.over };
       }
 
   -- what the slots are read by stays
@@ -163,5 +164,5 @@ module _ {C : Type 0} (stands : Ctx → Given → C → List Own → Type 0) (by
     unanswered = λ x asker made no_answer un. h.unanswered x asker (sym (λ i. askers i x) ∙ made) (sym (λ i. ans i x) ∙ no_answer) un;
     ended = λ x asker made done.
         let old = h.ended x asker (sym (λ i. askers i x) ∙ made) (sym (λ i. ans i x) ∙ done) in
-        record { child = old.child; begun = (λ i. givens i x) ∙ old.begun; tabled = subst (by_table (ctx_of o x asker.client old.child) (begun_with o asker.op old.child)) (sym (λ i. own i x)) old.tabled };
+        record { child = old.child; begun = (λ i. givens i x) ∙ old.begun; tabled = subst (by_table (ctx_of o x asker.client old.child) (begun_with o asker.op old.child)) (sym (λ i. own i x)) old.tabled; call = old.call; stood = subst (stands (ctx_of o x asker.client old.child) (begun_with o asker.op old.child) old.call) (sym (λ i. own i x)) old.stood; over = subst (λ (es : List Own). is_some (account (begun_with o asker.op old.child) es).answer ≡ true) (sym (λ i. own i x)) old.over };
   }

@@ -63,17 +63,20 @@ pub record IsRunning {C : Type 0} (stands : Ctx → Given → C → List Own →
   pub begun : l.given r.number ≡ Some (begun_with o asker.op child)
   pub meets : stands (ctx_of o r.number j child) (begun_with o asker.op child) r.call (l.own r.number)
 
--- An answered call went by its table.
-pub record HasEnded (by_table : Ctx → Given → List Own → Type 0) (o : Options) (l : Ledger) (a : ℕ) (asker : Asker) : Type 0 where
+-- An answered call went by its table; `call` is what stood for its own entries in the end.
+pub record HasEnded {C : Type 0} (stands : Ctx → Given → C → List Own → Type 0) (by_table : Ctx → Given → List Own → Type 0) (o : Options) (l : Ledger) (a : ℕ) (asker : Asker) : Type 0 where
   pub child : ℕ
   pub begun : l.given a ≡ Some (begun_with o asker.op child)
   pub tabled : by_table (ctx_of o a asker.client child) (begun_with o asker.op child) (l.own a)
+  pub call : C
+  pub stood : stands (ctx_of o a asker.client child) (begun_with o asker.op child) call (l.own a)
+  pub over : is_some (account (begun_with o asker.op child) (l.own a)).answer ≡ true
 
 -- The unanswered calls are those in their clients' slots; `out` is one that is out of its slot, while it takes a step.
 pub record OfSlots {C : Type 0} (stands : Ctx → Given → C → List Own → Type 0) (by_table : Ctx → Given → List Own → Type 0) (o : Options) (slots : List (Option (Running C))) (out : Option ℕ) (l : Ledger) : Type 0 where
   pub runs : (j : ℕ) (r : Running C) → slice_get slots j ≡ Some (Some r) → IsRunning stands o l j r × (out ≢ Some r.number)
   pub unanswered : (a : ℕ) (asker : Asker) → l.asker a ≡ Some asker → l.answered a ≡ false → out ≢ Some a → (r : Running C) × (slice_get slots asker.client ≡ Some (Some r)) × (r.number ≡ a)
-  pub ended : (a : ℕ) (asker : Asker) → l.asker a ≡ Some asker → l.answered a ≡ true → HasEnded by_table o l a asker
+  pub ended : (a : ℕ) (asker : Asker) → l.asker a ≡ Some asker → l.answered a ≡ true → HasEnded stands by_table o l a asker
 
 -- All calls that were made, by their numbers.
 pub record OfCalls (o : Options) (said : ℕ → Option Message) (l : Ledger) : Type 0 where

@@ -1,5 +1,5 @@
 -- Entries that change nothing of calls and clients.
-use Rattle.std.specs.Prelude.{◌≡◌, ◌≢◌, ℕ, ◌≤◌, Bool, true, false, not, Option, Some, None, List, [], ◌∷◌, slice_get}
+use Rattle.std.specs.Prelude.{◌≡◌, ◌≢◌, ℕ, ◌<◌, ◌≤◌, Bool, true, false, not, Option, Some, None, List, [], ◌∷◌, slice_get}
 use Rattle.ec_wire.specs.declared.message.Message.{Message}
 use Rattle.ec_wire.specs.declared.request.Request.{Request}
 use Rattle.ec_wire.specs.declared.request.Request.TheVariants.{Release}
@@ -24,6 +24,11 @@ is_of_bricks e = false
 abbrev pub IsFrom : ℕ → Entry → Type 0
 IsFrom next (Sent msg) = next ≤ msg.no
 IsFrom next e = Unit {0}
+
+-- a message is sent between a client and one of n bricks
+abbrev pub IsWithin : ℕ → Entry → Type 0
+IsWithin n (Sent msg) = msg.brick < n
+IsWithin n e = Unit {0}
 
 -- what was sent stays so
 abbrev pub Grows : (ℕ → Option Message) → (ℕ → Option Message) → Type 0
@@ -51,3 +56,7 @@ AreOfBricks (e ∷ es) = (is_of_bricks e ≡ true) × AreOfBricks es
 abbrev pub AreFrom : ℕ → List Entry → Type 0
 AreFrom next [] = Unit {0}
 AreFrom next (e ∷ es) = IsFrom next e × AreFrom next es
+
+abbrev pub AreWithin : ℕ → List Entry → Type 0
+AreWithin n [] = Unit {0}
+AreWithin n (e ∷ es) = IsWithin n e × AreWithin n es

@@ -1,5 +1,5 @@
 -- Replies that clients hear.
-use Rattle.std.specs.Prelude.{◌≡◌, ◌≢◌, ℕ, ◌+◌, Option, Some, None, List, ◌∷◌, ◌++◌}
+use Rattle.std.specs.Prelude.{◌≡◌, ◌≢◌, ℕ, ◌+◌, ◌<◌, All, Option, Some, None, List, ◌∷◌, ◌++◌}
 use Rattle.ec_cluster.specs.Views.{flight, next_of}
 use Rattle.ec_cluster.specs.declared.cluster.Cluster.{Cluster}
 use Rattle.ec_conduct.specs.Given.{Given}
@@ -46,9 +46,10 @@ pub record IsWaiting {C : Type 0} (stands : Ctx → Given → C → List Own →
   pub runs : running_at c j ≡ Some running
   pub awaits : (x : Ctx) (given : Given) (es : List Own) → stands x given running.call es → Some i ≡ number_of ((account given es).waits b)
 
--- Call a of client j heard reply i, sent these requests, and was answered or waits.
+-- Call a of client j heard reply i, sent these requests, each to one of the volume's bricks, and was answered or waits.
 pub record Hears {C : Type 0} (stands : Ctx → Given → C → List Own → Type 0) (by_table : Ctx → Given → List Own → Type 0) (s t : Cluster) (c d : Clients C) (i a j : ℕ) : Type 0 where
   pub sends : List Send
+  pub to : All (λ (x : Send). x.0 < c.options.geometry.n) sends
   pub answer : Option Answer
   pub goes : Goes c.options.geometry (Seen stands by_table s c None) (Seen stands by_table t d None) s t (Heard i ∷ (sent_entries a j (next_of s) sends ++ answer_entries a answer))
 
@@ -64,11 +65,13 @@ pub record Leaves {C : Type 0} (stands : Ctx → Given → C → List Own → Ty
   pub call : ℕ
   pub number : running.number ≡ call
   pub sends : List Send
+  pub to : All (λ (x : Send). x.0 < c.options.geometry.n) sends
   pub answer : Option Answer
   pub goes : Goes c.options.geometry (Seen stands by_table s c None) (Seen stands by_table t d None) s t (GivenUp j b i ∷ (sent_entries call j (next_of s) sends ++ answer_entries call answer))
 
 -- Client j began a call, sent these requests, and was answered or waits.
 pub record Begins {C : Type 0} (stands : Ctx → Given → C → List Own → Type 0) (by_table : Ctx → Given → List Own → Type 0) (s t : Cluster) (c d : Clients C) (j : ℕ) (op : Op) : Type 0 where
   pub sends : List Send
+  pub to : All (λ (x : Send). x.0 < c.options.geometry.n) sends
   pub answer : Option Answer
   pub goes : Goes c.options.geometry (Seen stands by_table s c None) (Seen stands by_table t d None) s t (Called (c.calls + 1) j op ∷ (sent_entries (c.calls + 1) j (next_of s) sends ++ answer_entries (c.calls + 1) answer))

@@ -41,3 +41,11 @@ pub fn new_clients<C: Conduct + Drop>(
         released: BTreeSet::new(alloc),
     })
 }
+
+/// The next create or mkdir takes this gfid. It is for clients that have made no call.
+pub fn set_next_gfid<C: Conduct>(clients: &mut Clients<C>, next_gfid: u128)
+    ensures same { clients.new ≡ record clients.old { next_gfid = next_gfid } }
+    ensures sees { (s : ClusterOf) (bricks : ℕ → State) (tree : Tree) (first : ℕ) → Sees C.stands (tabled C.begins C.goes) s clients.old (beginning bricks tree first) → Sees C.stands (tabled C.begins C.goes) s clients.new (beginning bricks tree next_gfid) }
+{
+    clients.next_gfid = next_gfid;
+}

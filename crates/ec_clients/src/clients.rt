@@ -42,6 +42,13 @@ impl<C> Clients<C> {
         }
     }
 
+    /// The volume's options.
+    pub fn options(&self) -> &Options
+        ensures { result.now ≡ self.now.options }
+    {
+        &self.options
+    }
+
     /// How many calls were made.
     pub fn calls(&self) -> u32
         ensures { result ≡ self.now.calls }

@@ -18,7 +18,7 @@ mod options;
 mod sending;
 mod slots;
 
-pub use beginning::new_clients;
+pub use beginning::{new_clients, set_next_gfid};
 pub use begins::Begins;
 pub use calling::{begin, die};
 pub use clients::{Clients, Running};

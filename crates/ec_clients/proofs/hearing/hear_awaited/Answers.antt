@@ -5,7 +5,7 @@ use Rattle.ec_clients.specs.Going.{answer_entries, sent_entries}
 use Rattle.ec_clients.specs.Steps.{Seen}
 use Rattle.ec_txn.specs.Steps.{answer_of}
 use Rattle.ec_clients.proofs.Goings.{breaks_now}
-use Rattle.ec_clients.proofs.Hearings.{heard_below, heard_breaks_at, heard_fit, heard_off, hears_all, slot_there}
+use Rattle.ec_clients.proofs.Hearings.{heard_below, heard_breaks_at, heard_fit, heard_off, heard_to, hears_all, slot_there}
 use Rattle.ec_clients.proofs.Sendings.{err_map, ok_map}
 use Rattle.ec_clients.proofs.hearing.hear_awaited.Goals as goal
 
@@ -28,7 +28,7 @@ pub go_on-requires-clause-fit : goal.go_on-requires-clause-fit
 go_on-requires-clause-fit g c = heard_fit g.C.Conduct.stands (tabled g.C.Conduct.begins g.C.Conduct.goes) g.met.C.Call.keeps c.args.cluster.now c.take_reply.new.self c.args.clients.now c.take.new.self c.args.no c.args.call c.args.client c.args.brick c.args.re c.requires.there c.requires.awaited c.requires.sound c.in-Ok.message c.next-next.result c.in-Some.reply c.in-Ok.ensures.message (sym c.in-Some.ensures) c.in-Ok.ensures.ok c.in-Some-take.running (c.take.ensures.was ∙ ap Some c.in-Some-take.is) c.take.ensures.same c.take.ensures.changes c.requires.lives c.next-next.ensures.value c.hear.new.self c.hear.new.sends (answer_of c.in-Ok-hear.turn) c.in-Ok-hear.ensures.adds c.requires.seen.0 c.requires.seen.1
 
 pub returns-clause-ok : goal.returns-clause-ok
-returns-clause-ok g c = ok_map c.go_on.result _ _ (λ goes. record { sends = c.hear.new.sends; answer = answer_of c.in-Ok-hear.turn; goes = hears_all g.C.Conduct.stands (tabled g.C.Conduct.begins g.C.Conduct.goes) g.met.C.Call.keeps c.args.cluster.now c.take_reply.new.self c.args.clients.now c.take.new.self c.args.no c.args.call c.args.client c.args.brick c.args.re c.requires.there c.requires.awaited c.requires.sound c.in-Ok.message c.next-next.result c.in-Some.reply c.in-Ok.ensures.message (sym c.in-Some.ensures) c.in-Ok.ensures.ok c.in-Some-take.running (c.take.ensures.was ∙ ap Some c.in-Some-take.is) c.take.ensures.same c.take.ensures.changes c.requires.lives c.next-next.ensures.value c.hear.new.self c.hear.new.sends (answer_of c.in-Ok-hear.turn) c.in-Ok-hear.ensures.adds c.go_on.new.cluster c.go_on.new.clients c.in-Ok.ensures.taken.next goes }) c.go_on.ensures.ok
+returns-clause-ok g c = ok_map c.go_on.result _ _ (λ goes. record { sends = c.hear.new.sends; to = heard_to g.C.Conduct.stands (tabled g.C.Conduct.begins g.C.Conduct.goes) g.met.C.Call.keeps c.args.cluster.now c.take_reply.new.self c.args.clients.now c.take.new.self c.args.no c.args.call c.args.client c.args.brick c.args.re c.requires.there c.requires.awaited c.requires.sound c.in-Ok.message c.next-next.result c.in-Some.reply c.in-Ok.ensures.message (sym c.in-Some.ensures) c.in-Ok.ensures.ok c.in-Some-take.running (c.take.ensures.was ∙ ap Some c.in-Some-take.is) c.take.ensures.same c.take.ensures.changes c.requires.lives c.next-next.ensures.value c.hear.new.self c.hear.new.sends (answer_of c.in-Ok-hear.turn) c.in-Ok-hear.ensures.adds c.requires.seen.0 c.requires.seen.1; answer = answer_of c.in-Ok-hear.turn; goes = hears_all g.C.Conduct.stands (tabled g.C.Conduct.begins g.C.Conduct.goes) g.met.C.Call.keeps c.args.cluster.now c.take_reply.new.self c.args.clients.now c.take.new.self c.args.no c.args.call c.args.client c.args.brick c.args.re c.requires.there c.requires.awaited c.requires.sound c.in-Ok.message c.next-next.result c.in-Some.reply c.in-Ok.ensures.message (sym c.in-Some.ensures) c.in-Ok.ensures.ok c.in-Some-take.running (c.take.ensures.was ∙ ap Some c.in-Some-take.is) c.take.ensures.same c.take.ensures.changes c.requires.lives c.next-next.ensures.value c.hear.new.self c.hear.new.sends (answer_of c.in-Ok-hear.turn) c.in-Ok-hear.ensures.adds c.go_on.new.cluster c.go_on.new.clients c.in-Ok.ensures.taken.next goes }) c.go_on.ensures.ok
 
 pub returns-clause-err : goal.returns-clause-err
 returns-clause-err g c = err_map c.go_on.result _ _ (λ breaks. heard_off g.C.Conduct.stands (tabled g.C.Conduct.begins g.C.Conduct.goes) g.met.C.Call.keeps c.args.cluster.now c.take_reply.new.self c.args.clients.now c.take.new.self c.args.no c.args.call c.args.client c.args.brick c.args.re c.requires.there c.requires.awaited c.requires.sound c.in-Ok.message c.next-next.result c.in-Some.reply c.in-Ok.ensures.message (sym c.in-Some.ensures) c.in-Ok.ensures.ok c.in-Some-take.running (c.take.ensures.was ∙ ap Some c.in-Some-take.is) c.take.ensures.same c.take.ensures.changes c.requires.lives c.next-next.ensures.value c.hear.new.self c.hear.new.sends (answer_of c.in-Ok-hear.turn) c.in-Ok-hear.ensures.adds c.go_on.new.cluster breaks) c.go_on.ensures.err

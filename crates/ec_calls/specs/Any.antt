@@ -8,7 +8,7 @@ use Rattle.ec_conduct.specs.Opened.{account}
 use Rattle.ec_conduct.specs.Own.{Own}
 use Rattle.ec_conduct.specs.Table.{IsByTable, IsByTurns, Step, Turned, step_entries}
 use Rattle.ec_wire.specs.declared.op.Op.{Op}
-use Rattle.ec_wire.specs.declared.op.Op.TheVariants.{Create, GetAttr, Lookup, Mkdir, Read, SetAttr, Stat, Write}
+use Rattle.ec_wire.specs.declared.op.Op.TheVariants.{Create, GetAttr, Lookup, Mkdir, Read, Readdir, SetAttr, Stat, Truncate, Unlink, Write}
 
 -- the same step, its stage being one of any call
 abbrev pub step_as : {P Q : Type 0} → (P → Q) → Step P → Step Q
@@ -46,4 +46,7 @@ IsBuilt (Read g off len via) = Unit {0}
 IsBuilt (Write g off bytes) = Unit {0}
 IsBuilt (Create g name) = Unit {0}
 IsBuilt (Mkdir g name) = Unit {0}
+IsBuilt (Readdir g) = Unit {0}
+IsBuilt (Unlink g name) = Unit {0}
+IsBuilt (Truncate g size) = Unit {0}
 IsBuilt op = ⊥

@@ -9,13 +9,14 @@ use ec_attr::{BrickSet, Kind};
 use ec_bank::RowTimes;
 use ec_conduct::Kept;
 use ec_entry::{
-    GetAttrCall, LookupCall, LookupStage, MakeCall, MakeStage, SetAttrCall, SetAttrStage,
-    begin_getattr, begin_lookup, begin_make, begin_setattr,
+    GetAttrCall, LookupCall, LookupStage, MakeCall, MakeStage, ReaddirCall, ReaddirStage,
+    SetAttrCall, SetAttrStage, UnlinkCall, UnlinkStage, begin_getattr, begin_lookup, begin_make,
+    begin_readdir, begin_setattr, begin_unlink,
 };
 use ec_read::{ReadCall, ReadStage, StatCall, begin_read, begin_stat};
 use ec_txn::{Call, Conduct, Ctx, Opening, Sends, Turn};
 use ec_wire::{Answer, Op, Phase, Reply};
-use ec_write::{WriteCall, WriteStage, begin_write};
+use ec_write::{TruncateCall, TruncateStage, WriteCall, WriteStage, begin_truncate, begin_write};
 use std::alloc::{AllocError, Global};
 
 /// Any call.
@@ -29,6 +30,9 @@ pub enum AnyCall {
     Write(WriteCall),
     /// A create or a mkdir.
     Make(MakeCall),
+    Readdir(ReaddirCall),
+    Unlink(UnlinkCall),
+    Truncate(TruncateCall),
 }
 
 /// A stage of any call.
@@ -41,6 +45,9 @@ pub enum AnyStage {
     Read(ReadStage),
     Write(WriteStage),
     Make(MakeStage),
+    Readdir(ReaddirStage),
+    Unlink(UnlinkStage),
+    Truncate(TruncateStage),
 }
 
 /// Whether calls of this kind are built.
@@ -57,6 +64,9 @@ pub fn is_built(op: &Op) -> bool
             | Op::Write { .. }
             | Op::Create { .. }
             | Op::Mkdir { .. }
+            | Op::Readdir { .. }
+            | Op::Unlink { .. }
+            | Op::Truncate { .. }
     )
 }
 
@@ -64,20 +74,20 @@ impl Conduct for AnyCall {
     ghost use Rattle.std.specs.Option.{option_map};
     ghost use Rattle.std.specs.Prelude.{◌⊎◌};
     ghost use Rattle.ec_calls.specs.Any.{Begins, Goes};
-    ghost use Rattle.ec_calls.specs.declared.any.AnyCall.TheVariants.{GetAttr as GetAttrOf, Lookup as LookupOf, Make as MakeOf, Read as ReadOf, SetAttr as SetAttrOf, Stat as StatOf, Write as WriteOf};
-    ghost use Rattle.ec_calls.specs.declared.any.AnyStage.TheVariants.{GetAttr as GetAttrAt, Lookup as LookupAt, Make as MakeAt, Read as ReadAt, SetAttr as SetAttrAt, Stat as StatAt, Write as WriteAt};
+    ghost use Rattle.ec_calls.specs.declared.any.AnyCall.TheVariants.{GetAttr as GetAttrOf, Lookup as LookupOf, Make as MakeOf, Read as ReadOf, Readdir as ReaddirOf, SetAttr as SetAttrOf, Stat as StatOf, Truncate as TruncateOf, Unlink as UnlinkOf, Write as WriteOf};
+    ghost use Rattle.ec_calls.specs.declared.any.AnyStage.TheVariants.{GetAttr as GetAttrAt, Lookup as LookupAt, Make as MakeAt, Read as ReadAt, Readdir as ReaddirAt, SetAttr as SetAttrAt, Stat as StatAt, Truncate as TruncateAt, Unlink as UnlinkAt, Write as WriteAt};
 
     type Stage = AnyStage;
 
-    ghost begins = { λ x given step. Begins StatAt (⟦<StatCall as Conduct>⟧.begins x) given step ⊎ Begins LookupAt (⟦<LookupCall as Conduct>⟧.begins x) given step ⊎ Begins GetAttrAt (⟦<GetAttrCall as Conduct>⟧.begins x) given step ⊎ Begins SetAttrAt (⟦<SetAttrCall as Conduct>⟧.begins x) given step ⊎ Begins ReadAt (⟦<ReadCall as Conduct>⟧.begins x) given step ⊎ Begins WriteAt (⟦<WriteCall as Conduct>⟧.begins x) given step ⊎ Begins MakeAt (⟦<MakeCall as Conduct>⟧.begins x) given step };
+    ghost begins = { λ x given step. Begins StatAt (⟦<StatCall as Conduct>⟧.begins x) given step ⊎ Begins LookupAt (⟦<LookupCall as Conduct>⟧.begins x) given step ⊎ Begins GetAttrAt (⟦<GetAttrCall as Conduct>⟧.begins x) given step ⊎ Begins SetAttrAt (⟦<SetAttrCall as Conduct>⟧.begins x) given step ⊎ Begins ReadAt (⟦<ReadCall as Conduct>⟧.begins x) given step ⊎ Begins WriteAt (⟦<WriteCall as Conduct>⟧.begins x) given step ⊎ Begins MakeAt (⟦<MakeCall as Conduct>⟧.begins x) given step ⊎ Begins ReaddirAt (⟦<ReaddirCall as Conduct>⟧.begins x) given step ⊎ Begins UnlinkAt (⟦<UnlinkCall as Conduct>⟧.begins x) given step ⊎ Begins TruncateAt (⟦<TruncateCall as Conduct>⟧.begins x) given step };
 
-    ghost goes = { λ x stage c step. elim stage [ StatAt p ↦ Goes StatAt (⟦<StatCall as Conduct>⟧.goes x) p c step | LookupAt p ↦ Goes LookupAt (⟦<LookupCall as Conduct>⟧.goes x) p c step | GetAttrAt p ↦ Goes GetAttrAt (⟦<GetAttrCall as Conduct>⟧.goes x) p c step | SetAttrAt p ↦ Goes SetAttrAt (⟦<SetAttrCall as Conduct>⟧.goes x) p c step | ReadAt p ↦ Goes ReadAt (⟦<ReadCall as Conduct>⟧.goes x) p c step | WriteAt p ↦ Goes WriteAt (⟦<WriteCall as Conduct>⟧.goes x) p c step | MakeAt p ↦ Goes MakeAt (⟦<MakeCall as Conduct>⟧.goes x) p c step ] };
+    ghost goes = { λ x stage c step. elim stage [ StatAt p ↦ Goes StatAt (⟦<StatCall as Conduct>⟧.goes x) p c step | LookupAt p ↦ Goes LookupAt (⟦<LookupCall as Conduct>⟧.goes x) p c step | GetAttrAt p ↦ Goes GetAttrAt (⟦<GetAttrCall as Conduct>⟧.goes x) p c step | SetAttrAt p ↦ Goes SetAttrAt (⟦<SetAttrCall as Conduct>⟧.goes x) p c step | ReadAt p ↦ Goes ReadAt (⟦<ReadCall as Conduct>⟧.goes x) p c step | WriteAt p ↦ Goes WriteAt (⟦<WriteCall as Conduct>⟧.goes x) p c step | MakeAt p ↦ Goes MakeAt (⟦<MakeCall as Conduct>⟧.goes x) p c step | ReaddirAt p ↦ Goes ReaddirAt (⟦<ReaddirCall as Conduct>⟧.goes x) p c step | UnlinkAt p ↦ Goes UnlinkAt (⟦<UnlinkCall as Conduct>⟧.goes x) p c step | TruncateAt p ↦ Goes TruncateAt (⟦<TruncateCall as Conduct>⟧.goes x) p c step ] };
 
-    ghost phase_of = { λ stage. elim stage [ StatAt p ↦ ⟦<StatCall as Conduct>⟧.phase_of p | LookupAt p ↦ ⟦<LookupCall as Conduct>⟧.phase_of p | GetAttrAt p ↦ ⟦<GetAttrCall as Conduct>⟧.phase_of p | SetAttrAt p ↦ ⟦<SetAttrCall as Conduct>⟧.phase_of p | ReadAt p ↦ ⟦<ReadCall as Conduct>⟧.phase_of p | WriteAt p ↦ ⟦<WriteCall as Conduct>⟧.phase_of p | MakeAt p ↦ ⟦<MakeCall as Conduct>⟧.phase_of p ] };
+    ghost phase_of = { λ stage. elim stage [ StatAt p ↦ ⟦<StatCall as Conduct>⟧.phase_of p | LookupAt p ↦ ⟦<LookupCall as Conduct>⟧.phase_of p | GetAttrAt p ↦ ⟦<GetAttrCall as Conduct>⟧.phase_of p | SetAttrAt p ↦ ⟦<SetAttrCall as Conduct>⟧.phase_of p | ReadAt p ↦ ⟦<ReadCall as Conduct>⟧.phase_of p | WriteAt p ↦ ⟦<WriteCall as Conduct>⟧.phase_of p | MakeAt p ↦ ⟦<MakeCall as Conduct>⟧.phase_of p | ReaddirAt p ↦ ⟦<ReaddirCall as Conduct>⟧.phase_of p | UnlinkAt p ↦ ⟦<UnlinkCall as Conduct>⟧.phase_of p | TruncateAt p ↦ ⟦<TruncateCall as Conduct>⟧.phase_of p ] };
 
-    ghost stage = { λ call. elim call [ StatOf own ↦ option_map StatAt (⟦<StatCall as Conduct>⟧.stage own) | LookupOf own ↦ option_map LookupAt (⟦<LookupCall as Conduct>⟧.stage own) | GetAttrOf own ↦ option_map GetAttrAt (⟦<GetAttrCall as Conduct>⟧.stage own) | SetAttrOf own ↦ option_map SetAttrAt (⟦<SetAttrCall as Conduct>⟧.stage own) | ReadOf own ↦ option_map ReadAt (⟦<ReadCall as Conduct>⟧.stage own) | WriteOf own ↦ option_map WriteAt (⟦<WriteCall as Conduct>⟧.stage own) | MakeOf own ↦ option_map MakeAt (⟦<MakeCall as Conduct>⟧.stage own) ] };
+    ghost stage = { λ call. elim call [ StatOf own ↦ option_map StatAt (⟦<StatCall as Conduct>⟧.stage own) | LookupOf own ↦ option_map LookupAt (⟦<LookupCall as Conduct>⟧.stage own) | GetAttrOf own ↦ option_map GetAttrAt (⟦<GetAttrCall as Conduct>⟧.stage own) | SetAttrOf own ↦ option_map SetAttrAt (⟦<SetAttrCall as Conduct>⟧.stage own) | ReadOf own ↦ option_map ReadAt (⟦<ReadCall as Conduct>⟧.stage own) | WriteOf own ↦ option_map WriteAt (⟦<WriteCall as Conduct>⟧.stage own) | MakeOf own ↦ option_map MakeAt (⟦<MakeCall as Conduct>⟧.stage own) | ReaddirOf own ↦ option_map ReaddirAt (⟦<ReaddirCall as Conduct>⟧.stage own) | UnlinkOf own ↦ option_map UnlinkAt (⟦<UnlinkCall as Conduct>⟧.stage own) | TruncateOf own ↦ option_map TruncateAt (⟦<TruncateCall as Conduct>⟧.stage own) ] };
 
-    ghost stands = { λ x given call es. elim call [ StatOf own ↦ ⟦<StatCall as Conduct>⟧.stands x given own es | LookupOf own ↦ ⟦<LookupCall as Conduct>⟧.stands x given own es | GetAttrOf own ↦ ⟦<GetAttrCall as Conduct>⟧.stands x given own es | SetAttrOf own ↦ ⟦<SetAttrCall as Conduct>⟧.stands x given own es | ReadOf own ↦ ⟦<ReadCall as Conduct>⟧.stands x given own es | WriteOf own ↦ ⟦<WriteCall as Conduct>⟧.stands x given own es | MakeOf own ↦ ⟦<MakeCall as Conduct>⟧.stands x given own es ] };
+    ghost stands = { λ x given call es. elim call [ StatOf own ↦ ⟦<StatCall as Conduct>⟧.stands x given own es | LookupOf own ↦ ⟦<LookupCall as Conduct>⟧.stands x given own es | GetAttrOf own ↦ ⟦<GetAttrCall as Conduct>⟧.stands x given own es | SetAttrOf own ↦ ⟦<SetAttrCall as Conduct>⟧.stands x given own es | ReadOf own ↦ ⟦<ReadCall as Conduct>⟧.stands x given own es | WriteOf own ↦ ⟦<WriteCall as Conduct>⟧.stands x given own es | MakeOf own ↦ ⟦<MakeCall as Conduct>⟧.stands x given own es | ReaddirOf own ↦ ⟦<ReaddirCall as Conduct>⟧.stands x given own es | UnlinkOf own ↦ ⟦<UnlinkCall as Conduct>⟧.stands x given own es | TruncateOf own ↦ ⟦<TruncateCall as Conduct>⟧.stands x given own es ] };
 }
 
 impl AnyCall {
@@ -133,6 +143,18 @@ impl AnyCall {
                 let call = begin_make(alloc, ctx, *parent, name, Kind::Dir, next, sends)?;
                 Ok(AnyCall::Make(call))
             }
+            Op::Readdir { gfid } => {
+                let call = begin_readdir(alloc, ctx, *gfid, next, sends)?;
+                Ok(AnyCall::Readdir(call))
+            }
+            Op::Unlink { parent, name } => {
+                let call = begin_unlink(alloc, ctx, *parent, name, next, sends)?;
+                Ok(AnyCall::Unlink(call))
+            }
+            Op::Truncate { gfid, size } => {
+                let call = begin_truncate(alloc, ctx, *gfid, *size, next, sends)?;
+                Ok(AnyCall::Truncate(call))
+            }
             _ => Err(AllocError),
         }
     }
@@ -144,8 +166,8 @@ impl<T: RowTimes> Call<T> for AnyCall {
     ghost use Rattle.ec_calls.specs.Any.{table_as};
     ghost use Rattle.ec_conduct.specs.Conduct.{Keeps};
     ghost use Rattle.ec_conduct.specs.Table.{IsByTable};
-    ghost use Rattle.ec_calls.specs.declared.any.AnyCall.TheVariants.{GetAttr as GetAttrOf, Lookup as LookupOf, Make as MakeOf, Read as ReadOf, SetAttr as SetAttrOf, Stat as StatOf, Write as WriteOf};
-    ghost use Rattle.ec_calls.specs.declared.any.AnyStage.TheVariants.{GetAttr as GetAttrAt, Lookup as LookupAt, Make as MakeAt, Read as ReadAt, SetAttr as SetAttrAt, Stat as StatAt, Write as WriteAt};
+    ghost use Rattle.ec_calls.specs.declared.any.AnyCall.TheVariants.{GetAttr as GetAttrOf, Lookup as LookupOf, Make as MakeOf, Read as ReadOf, Readdir as ReaddirOf, SetAttr as SetAttrOf, Stat as StatOf, Truncate as TruncateOf, Unlink as UnlinkOf, Write as WriteOf};
+    ghost use Rattle.ec_calls.specs.declared.any.AnyStage.TheVariants.{GetAttr as GetAttrAt, Lookup as LookupAt, Make as MakeAt, Read as ReadAt, Readdir as ReaddirAt, SetAttr as SetAttrAt, Stat as StatAt, Truncate as TruncateAt, Unlink as UnlinkAt, Write as WriteAt};
 
     fn phase(&self) -> Phase {
         match self {
@@ -156,6 +178,9 @@ impl<T: RowTimes> Call<T> for AnyCall {
             AnyCall::Read(call) => <ReadCall as Call<T>>::phase(call),
             AnyCall::Write(call) => <WriteCall as Call<T>>::phase(call),
             AnyCall::Make(call) => <MakeCall as Call<T>>::phase(call),
+            AnyCall::Readdir(call) => <ReaddirCall as Call<T>>::phase(call),
+            AnyCall::Unlink(call) => <UnlinkCall as Call<T>>::phase(call),
+            AnyCall::Truncate(call) => <TruncateCall as Call<T>>::phase(call),
         }
     }
 
@@ -168,6 +193,9 @@ impl<T: RowTimes> Call<T> for AnyCall {
             AnyCall::Read(call) => <ReadCall as Call<T>>::waiting(call),
             AnyCall::Write(call) => <WriteCall as Call<T>>::waiting(call),
             AnyCall::Make(call) => <MakeCall as Call<T>>::waiting(call),
+            AnyCall::Readdir(call) => <ReaddirCall as Call<T>>::waiting(call),
+            AnyCall::Unlink(call) => <UnlinkCall as Call<T>>::waiting(call),
+            AnyCall::Truncate(call) => <TruncateCall as Call<T>>::waiting(call),
         }
     }
 
@@ -180,6 +208,9 @@ impl<T: RowTimes> Call<T> for AnyCall {
             AnyCall::Read(call) => <ReadCall as Call<T>>::awaits(call, brick),
             AnyCall::Write(call) => <WriteCall as Call<T>>::awaits(call, brick),
             AnyCall::Make(call) => <MakeCall as Call<T>>::awaits(call, brick),
+            AnyCall::Readdir(call) => <ReaddirCall as Call<T>>::awaits(call, brick),
+            AnyCall::Unlink(call) => <UnlinkCall as Call<T>>::awaits(call, brick),
+            AnyCall::Truncate(call) => <TruncateCall as Call<T>>::awaits(call, brick),
         }
     }
 
@@ -192,6 +223,9 @@ impl<T: RowTimes> Call<T> for AnyCall {
             AnyCall::Read(call) => <ReadCall as Call<T>>::ready(call),
             AnyCall::Write(call) => <WriteCall as Call<T>>::ready(call),
             AnyCall::Make(call) => <MakeCall as Call<T>>::ready(call),
+            AnyCall::Readdir(call) => <ReaddirCall as Call<T>>::ready(call),
+            AnyCall::Unlink(call) => <UnlinkCall as Call<T>>::ready(call),
+            AnyCall::Truncate(call) => <TruncateCall as Call<T>>::ready(call),
         }
     }
 
@@ -211,6 +245,9 @@ impl<T: RowTimes> Call<T> for AnyCall {
             AnyCall::Read(call) => call.hear(rows, next, brick, reply, sends),
             AnyCall::Write(call) => call.hear(rows, next, brick, reply, sends),
             AnyCall::Make(call) => call.hear(rows, next, brick, reply, sends),
+            AnyCall::Readdir(call) => call.hear(rows, next, brick, reply, sends),
+            AnyCall::Unlink(call) => call.hear(rows, next, brick, reply, sends),
+            AnyCall::Truncate(call) => call.hear(rows, next, brick, reply, sends),
         }
     }
 
@@ -229,10 +266,13 @@ impl<T: RowTimes> Call<T> for AnyCall {
             AnyCall::Read(call) => call.give_up(rows, next, brick, sends),
             AnyCall::Write(call) => call.give_up(rows, next, brick, sends),
             AnyCall::Make(call) => call.give_up(rows, next, brick, sends),
+            AnyCall::Readdir(call) => call.give_up(rows, next, brick, sends),
+            AnyCall::Unlink(call) => call.give_up(rows, next, brick, sends),
+            AnyCall::Truncate(call) => call.give_up(rows, next, brick, sends),
         }
     }
 
-    ghost keeps = { λ x given call es. elim call as (λ call. ⟦<AnyCall as Conduct>⟧.stands x given call es → Keeps given es) [ StatOf own ↦ λ s. s.keeps | LookupOf own ↦ λ s. s.keeps | GetAttrOf own ↦ λ s. s.keeps | SetAttrOf own ↦ λ s. s.keeps | ReadOf own ↦ λ s. s.keeps | WriteOf own ↦ λ s. s.keeps | MakeOf own ↦ λ s. s.keeps ] };
+    ghost keeps = { λ x given call es. elim call as (λ call. ⟦<AnyCall as Conduct>⟧.stands x given call es → Keeps given es) [ StatOf own ↦ λ s. s.keeps | LookupOf own ↦ λ s. s.keeps | GetAttrOf own ↦ λ s. s.keeps | SetAttrOf own ↦ λ s. s.keeps | ReadOf own ↦ λ s. s.keeps | WriteOf own ↦ λ s. s.keeps | MakeOf own ↦ λ s. s.keeps | ReaddirOf own ↦ λ s. s.keeps | UnlinkOf own ↦ λ s. s.keeps | TruncateOf own ↦ λ s. s.keeps ] };
 
     ghost by_table = { λ x given call es. elim call as (λ call. ⟦<AnyCall as Conduct>⟧.stands x given call es → IsByTable (⟦<AnyCall as Conduct>⟧.begins x) (⟦<AnyCall as Conduct>⟧.goes x) given es (⟦<AnyCall as Conduct>⟧.stage call)) [
       | StatOf own ↦ λ s. table_as StatAt (⟦<StatCall as Conduct>⟧.begins x) (⟦<StatCall as Conduct>⟧.goes x) (⟦<AnyCall as Conduct>⟧.begins x) (⟦<AnyCall as Conduct>⟧.goes x) (λ given step b. inl (step, b, refl)) (λ p c step w. (step, w, refl)) given es own.stage s.by_table
@@ -241,6 +281,9 @@ impl<T: RowTimes> Call<T> for AnyCall {
       | SetAttrOf own ↦ λ s. table_as SetAttrAt (⟦<SetAttrCall as Conduct>⟧.begins x) (⟦<SetAttrCall as Conduct>⟧.goes x) (⟦<AnyCall as Conduct>⟧.begins x) (⟦<AnyCall as Conduct>⟧.goes x) (λ given step b. inr (inr (inr (inl (step, b, refl))))) (λ p c step w. (step, w, refl)) given es own.stage s.by_table
       | ReadOf own ↦ λ s. table_as ReadAt (⟦<ReadCall as Conduct>⟧.begins x) (⟦<ReadCall as Conduct>⟧.goes x) (⟦<AnyCall as Conduct>⟧.begins x) (⟦<AnyCall as Conduct>⟧.goes x) (λ given step b. inr (inr (inr (inr (inl (step, b, refl)))))) (λ p c step w. (step, w, refl)) given es own.stage s.by_table
       | WriteOf own ↦ λ s. table_as WriteAt (⟦<WriteCall as Conduct>⟧.begins x) (⟦<WriteCall as Conduct>⟧.goes x) (⟦<AnyCall as Conduct>⟧.begins x) (⟦<AnyCall as Conduct>⟧.goes x) (λ given step b. inr (inr (inr (inr (inr (inl (step, b, refl))))))) (λ p c step w. (step, w, refl)) given es own.stage s.by_table
-      | MakeOf own ↦ λ s. table_as MakeAt (⟦<MakeCall as Conduct>⟧.begins x) (⟦<MakeCall as Conduct>⟧.goes x) (⟦<AnyCall as Conduct>⟧.begins x) (⟦<AnyCall as Conduct>⟧.goes x) (λ given step b. inr (inr (inr (inr (inr (inr (step, b, refl))))))) (λ p c step w. (step, w, refl)) given es own.stage s.by_table
+      | MakeOf own ↦ λ s. table_as MakeAt (⟦<MakeCall as Conduct>⟧.begins x) (⟦<MakeCall as Conduct>⟧.goes x) (⟦<AnyCall as Conduct>⟧.begins x) (⟦<AnyCall as Conduct>⟧.goes x) (λ given step b. inr (inr (inr (inr (inr (inr (inl (step, b, refl)))))))) (λ p c step w. (step, w, refl)) given es own.stage s.by_table
+      | ReaddirOf own ↦ λ s. table_as ReaddirAt (⟦<ReaddirCall as Conduct>⟧.begins x) (⟦<ReaddirCall as Conduct>⟧.goes x) (⟦<AnyCall as Conduct>⟧.begins x) (⟦<AnyCall as Conduct>⟧.goes x) (λ given step b. inr (inr (inr (inr (inr (inr (inr (inl (step, b, refl))))))))) (λ p c step w. (step, w, refl)) given es own.stage s.by_table
+      | UnlinkOf own ↦ λ s. table_as UnlinkAt (⟦<UnlinkCall as Conduct>⟧.begins x) (⟦<UnlinkCall as Conduct>⟧.goes x) (⟦<AnyCall as Conduct>⟧.begins x) (⟦<AnyCall as Conduct>⟧.goes x) (λ given step b. inr (inr (inr (inr (inr (inr (inr (inr (inl (step, b, refl)))))))))) (λ p c step w. (step, w, refl)) given es own.stage s.by_table
+      | TruncateOf own ↦ λ s. table_as TruncateAt (⟦<TruncateCall as Conduct>⟧.begins x) (⟦<TruncateCall as Conduct>⟧.goes x) (⟦<AnyCall as Conduct>⟧.begins x) (⟦<AnyCall as Conduct>⟧.goes x) (λ given step b. inr (inr (inr (inr (inr (inr (inr (inr (inr (step, b, refl)))))))))) (λ p c step w. (step, w, refl)) given es own.stage s.by_table
     ] };
 }

@@ -2,5 +2,6 @@
 #![tactic(auto)]
 
 mod any;
+mod begins;
 
 pub use any::{AnyCall, AnyStage, is_built};

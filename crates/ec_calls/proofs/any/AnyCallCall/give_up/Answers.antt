@@ -20,3 +20,12 @@ returns-in-Write g c = rw c.in-Write.is c.give_up-in-Write.ensures
 
 pub returns-in-Make : goal.returns-in-Make
 returns-in-Make g c = rw c.in-Make.is c.give_up-in-Make.ensures
+
+pub returns-in-Readdir : goal.returns-in-Readdir
+returns-in-Readdir g c = rw c.in-Readdir.is c.give_up-in-Readdir.ensures
+
+pub returns-in-Unlink : goal.returns-in-Unlink
+returns-in-Unlink g c = rw c.in-Unlink.is c.give_up-in-Unlink.ensures
+
+pub returns-in-Truncate : goal.returns-in-Truncate
+returns-in-Truncate g c = rw c.in-Truncate.is c.give_up-in-Truncate.ensures

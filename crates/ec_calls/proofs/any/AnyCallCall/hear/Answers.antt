@@ -20,3 +20,12 @@ returns-in-Write g c = rw c.in-Write.is c.hear-in-Write.ensures
 
 pub returns-in-Make : goal.returns-in-Make
 returns-in-Make g c = rw c.in-Make.is c.hear-in-Make.ensures
+
+pub returns-in-Readdir : goal.returns-in-Readdir
+returns-in-Readdir g c = rw c.in-Readdir.is c.hear-in-Readdir.ensures
+
+pub returns-in-Unlink : goal.returns-in-Unlink
+returns-in-Unlink g c = rw c.in-Unlink.is c.hear-in-Unlink.ensures
+
+pub returns-in-Truncate : goal.returns-in-Truncate
+returns-in-Truncate g c = rw c.in-Truncate.is c.hear-in-Truncate.ensures

@@ -18,7 +18,8 @@ use Rattle.ec_play.specs.declared.status.ScriptWhy.TheVariants as why
 use Rattle.ec_play.specs.declared.status.Status.{Status}
 use Rattle.ec_play.specs.declared.status.Status.TheVariants as status
 use Rattle.ec_play.specs.Lines.{lines}
-use Rattle.ec_play.specs.Meaning.{AreUnanswered, Meaning}
+use Rattle.ec_world.specs.Unanswered.{AreUnanswered}
+use Rattle.ec_play.specs.Meaning.{Meaning}
 use Rattle.ec_play.specs.Orders.{line_order, orders}
 use Rattle.ec_play.specs.Texts.{open_text, text_of}
 

@@ -60,15 +60,3 @@ Fails M Told s t before after event why = Refuses M Told s t before after event 
 abbrev pub Steps : {W : Type 0} → Meaning W → Type 0 → W → W → List Records → List Records → Event → Result (Unit {0}) Refused → Type 0
 Steps M Told s t before after event (Ok x) = Does M Told s t before after event
 Steps M Told s t before after event (Err why) = Fails M Told s t before after event why
-
--- a call that was made and has no answer
-pub record IsUnanswered (m : Net) (call : ℕ) : Type 0 where
-  pub asker : Asker
-  pub made : m.asker call ≡ Some asker
-  pub unanswered : m.answered call ≡ false
-
--- The calls that were made and have no answer, rising.
-pub record AreUnanswered (m : Net) (calls : List ℕ) : Type 0 where
-  pub rising : (i j : ℕ) → i < j → j < length calls → slice_index calls i < slice_index calls j
-  pub made : (i : ℕ) → i < length calls → IsUnanswered m (slice_index calls i)
-  pub all : (call : ℕ) → IsUnanswered m call → (i : ℕ) × (i < length calls) × (slice_index calls i ≡ call)

@@ -6,7 +6,8 @@ ghost use Rattle.ec_cluster.specs.Matches.{StandsAs};
 ghost use Rattle.ec_history.specs.Run.{Net, fresh, run};
 ghost use Rattle.ec_script.specs.Printed.{IsEvent};
 ghost use Rattle.ec_store.specs.Records.{Records};
-ghost use Rattle.ec_play.specs.Meaning.{AreUnanswered, Meaning, Steps};
+ghost use Rattle.ec_world.specs.Unanswered.{AreUnanswered};
+ghost use Rattle.ec_play.specs.Meaning.{Meaning, Steps};
 
 use ec_store::BrickStore;
 use ec_wire::{Event, ItemList, Log};

@@ -6,12 +6,13 @@ use Rattle.ec_attr.specs.declared.geometry.Geometry.{Geometry}
 use Rattle.ec_brick.specs.Meets.{is_fault}
 use Rattle.ec_clients.specs.Beginning.{AreAsMany}
 use Rattle.ec_clients.specs.Come.{Come, come}
-use Rattle.ec_clients.specs.Frames.{AreFrom, AreOfBricks}
-use Rattle.ec_clients.specs.Owned.{AreOwned, Sees}
+use Rattle.ec_clients.specs.Frames.{AreFrom, AreOfBricks, AreWithin}
+use Rattle.ec_clients.specs.Owned.{Sees}
 use Rattle.ec_clients.specs.Steps.{Seen}
 use Rattle.ec_clients.specs.declared.clients.Clients.{Clients}
 use Rattle.ec_clients.proofs.Goings.{net_is}
-use Rattle.ec_clients.proofs.Owning.{AllFit, bricks_fit, owned_all}
+use Rattle.ec_clients.proofs.Booking.{sees_come}
+use Rattle.ec_clients.proofs.Owning.{bricks_fit}
 use Rattle.ec_cluster.specs.Entries.{reply_entries}
 use Rattle.ec_cluster.specs.Matches.{Matches, StandsAs}
 use Rattle.ec_cluster.specs.Said.{said_in}
@@ -34,7 +35,7 @@ use Rattle.ec_wire.specs.declared.message.Message.{Message}
 use Rattle.ec_wire.specs.declared.reply.Reply.{Reply}
 use Rattle.ec_world.specs.Events.{Advances, Breaks}
 use Rattle.ec_world.specs.Steps.{IsTear, OneStep}
-use Rattle.ec_world.proofs.Following.{replies_follow}
+use Rattle.ec_world.proofs.Following.{replies_follow, replies_within}
 
 -- what the law of the clients says of bricks
 abbrev pub BrickLaw : {C : Type 0} → (Ctx → Given → C → List Own → Type 0) → (Ctx → Given → List Own → Type 0) → Type 0
@@ -49,10 +50,7 @@ one e es = ap (λ (l : List Entry). e ∷ l) (append-nil es)
 pub as_many : {C : Type 0} (c : Clients C) → AreAsMany c c
 as_many c = record { slots = refl; lives = refl }
 
-pub owned_come : (g : Geometry) (es : List Entry) (p : Come) → AllFit p.net es → AreOwned p.net.said p.net.asker → AreOwned (come g es p).net.said (come g es p).net.asker
-owned_come g es p fit h = subst (λ (m : Net). AreOwned m.said m.asker) (sym (net_is g es p)) (owned_all es p.net fit h)
-
-has_place : {X : Type 0} (xs : List X) (b : ℕ) → b < length xs → (x : X) × (slice_get xs b ≡ Some x)
+pub has_place : {X : Type 0} (xs : List X) (b : ℕ) → b < length xs → (x : X) × (slice_get xs b ≡ Some x)
 has_place [] b lt = absurd (omega arith)
 has_place (x ∷ xs) zero lt = (x, refl)
 has_place (x ∷ xs) (suc b) lt = has_place xs b (omega arith)
@@ -78,17 +76,14 @@ module _ {C : Type 0} (stands : Ctx → Given → C → List Own → Type 0) (by
         subst (λ (l : List Entry). IsRun (size_of s) l p.net × Matches t after (come c.options.geometry l p).net × OneStep Is p (step_of e es ∷ [])) (sym (one e es)) (r.0, r.1, (r.2, follow));
   }
 
-  pub brick_sees : (law : BrickLaw stands by_table) (s t : Cluster) (c : Clients C) (es : List Entry) → IsSound s → log_of t ≡ log_of s ++ es → AreOfBricks es → AreFrom (next_of s) es → (p : Come) → Sees stands by_table s c p → Sees stands by_table t c (come c.options.geometry es p)
-  brick_sees law s t c es sound log bricks from p h = record {
-    seen = law s t c es sound log bricks from p h.seen;
-    owned = owned_come c.options.geometry es p (bricks_fit es p.net bricks) h.owned;
-  }
+  pub brick_sees : (law : BrickLaw stands by_table) (s t : Cluster) (c : Clients C) (es : List Entry) → IsSound s → log_of t ≡ log_of s ++ es → size_of t ≡ size_of s → AreOfBricks es → AreFrom (next_of s) es → AreWithin (size_of s) es → (p : Come) → Sees stands by_table s c p → Sees stands by_table t c (come c.options.geometry es p)
+  brick_sees law s t c es sound log size bricks from within p h = sees_come stands by_table s t c c c.options.geometry es p size (bricks_fit es p.net bricks) within (law s t c es sound log bricks from p h.seen) h
 
   -- a step of bricks
-  pub brick_advances : (law : BrickLaw stands by_table) (Told : Type 0) (Is : Net → Entry → Type 0) (s t : Cluster) (c : Clients C) (records : List Records) (e : Entry) (es : List Entry) → IsSound s → ClusterAdvances Always s t (e ∷ es) → AreOfBricks (e ∷ es) → AreFrom (next_of s) (e ∷ es) → list_all is_of_course es ≡ true → ((m : Net) → Is m e) → Advances stands by_table Told (OneStep Is) s t c c records records
-  brick_advances law Told Is s t c records e es sound adv bricks from follow is =
+  pub brick_advances : (law : BrickLaw stands by_table) (Told : Type 0) (Is : Net → Entry → Type 0) (s t : Cluster) (c : Clients C) (records : List Records) (e : Entry) (es : List Entry) → IsSound s → ClusterAdvances Always s t (e ∷ es) → AreOfBricks (e ∷ es) → AreFrom (next_of s) (e ∷ es) → AreWithin (size_of s) (e ∷ es) → list_all is_of_course es ≡ true → ((m : Net) → Is m e) → Advances stands by_table Told (OneStep Is) s t c c records records
+  brick_advances law Told Is s t c records e es sound adv bricks from within follow is =
       one_step Told Is s t c c records records e es follow adv.log adv.size refl (as_many c) adv.sound
-      (λ p h. brick_sees law s t c (e ∷ es) sound adv.log bricks from p h)
+      (λ p h. brick_sees law s t c (e ∷ es) sound adv.log adv.size bricks from within p h)
       (λ told p h m. let r = adv.runs records p.net m tt in (r.0, subst (Matches t records) (sym (net_is c.options.geometry (e ∷ es) p)) r.1, is p.net))
 
   -- an execution
@@ -98,7 +93,7 @@ module _ {C : Type 0} (stands : Ctx → Given → C → List Own → Type 0) (by
       let e : Entry = Executed num x.effects.version (is_fault x.effects.reply) in
       let r = replies (said_in (log_of s)) x.message (next_of s) x.effects.reply x.effects.granted in
       one_step Told Is s t c c before after e es (replies_follow (said_in (log_of s)) x.message (next_of s) x.effects.reply x.effects.granted) x.log x.size refl (as_many c) x.sound
-      (λ p h. brick_sees law s t c (e ∷ es) sound x.log (refl, r.0) (tt, r.1) p h)
+      (λ p h. brick_sees law s t c (e ∷ es) sound x.log x.size (refl, r.0) (tt, r.1) (tt, replies_within (size_of s) (said_in (log_of s)) x.message (next_of s) x.effects.reply x.effects.granted (sound.flies num x.message x.sent).brick) p h)
       (λ told p h m. let y = x.runs told p.net m tt in (y.0, subst (Matches t after) (sym (net_is c.options.geometry (e ∷ es) p)) y.1, is p.net x.effects.version (is_fault x.effects.reply)))
 
   -- where there is no memory
@@ -122,5 +117,5 @@ module _ {C : Type 0} (stands : Ctx → Given → C → List Own → Type 0) (by
   pub tears_advances : (law : BrickLaw stands by_table) (Told : Type 0) (s t : Cluster) (c : Clients C) (before after : List Records) (faults_before faults_after : List ℕ) (num count : ℕ) → IsSound s → Tears Told s t before after faults_before faults_after num count → Advances stands by_table Told (OneStep (IsTear num count)) s t c c before after
   tears_advances law Told s t c before after fb fa num count sound x =
       one_step stands by_table Told (IsTear num count) s t c c before after (Torn num count x.version) [] refl x.log x.size refl (as_many c) x.sound
-      (λ p h. brick_sees stands by_table law s t c (Torn num count x.version ∷ []) sound x.log (refl, tt) (tt, tt) p h)
+      (λ p h. brick_sees stands by_table law s t c (Torn num count x.version ∷ []) sound x.log x.size (refl, tt) (tt, tt) (tt, tt) p h)
       (λ told p h m. let y = x.runs told p.net m tt in (y.0, subst (Matches t after) (sym (net_is c.options.geometry (Torn num count x.version ∷ []) p)) y.1, (x.version, refl)))

@@ -4,8 +4,11 @@ use Rattle.ec_attr.specs.declared.geometry.Geometry.{Geometry}
 use Rattle.ec_clients.specs.Beginning.{AreAsMany, HasClients, beginning}
 use Rattle.ec_clients.specs.Come.{Come, come}
 use Rattle.ec_clients.specs.Owned.{Sees}
+use Rattle.ec_clients.specs.Views.{running_at}
 use Rattle.ec_clients.specs.declared.clients.Clients.{Clients}
+use Rattle.ec_clients.specs.declared.clients.Running.{Running}
 use Rattle.ec_clients.proofs.Goings.{come_append, is_run_append, net_is}
+use Rattle.ec_clients.proofs.Places.{some_is}
 use Rattle.ec_cluster.specs.Matches.{Matches, StandsAs}
 use Rattle.ec_cluster.specs.Sound.{IsSound}
 use Rattle.ec_cluster.specs.Views.{log_of, size_of}
@@ -14,12 +17,18 @@ use Rattle.ec_conduct.specs.Given.{Given}
 use Rattle.ec_conduct.specs.Own.{Own}
 use Rattle.ec_history.specs.IsRun.{IsRun}
 use Rattle.ec_history.specs.Run.{Net, run}
-use Rattle.ec_history.specs.Script.{Step, entries_of}
+use Rattle.ec_history.specs.Script.{IsSettling, Settles, Step, entries_of}
 use Rattle.ec_store.specs.Records.{Records}
 use Rattle.ec_txn.specs.declared.ctx.Ctx.{Ctx}
 use Rattle.ec_wire.specs.declared.entry.Entry.{Entry}
-use Rattle.ec_world.specs.Events.{Advances, Breaks}
-use Rattle.ec_world.specs.Steps.{OneStep, SettlesBy, SettlesFrom}
+use Rattle.ec_wire.specs.declared.event.Event.TheVariants.{Settle}
+use Rattle.ec_wire.specs.declared.phase.Phase.{Phase}
+use Rattle.ec_world.specs.Events.{Advances, Breaks, OfEvent}
+use Rattle.ec_world.specs.Quiet.{EachBefore, IsQuiet, IsUnderWay}
+use Rattle.ec_world.specs.Resting.{Rests}
+use Rattle.ec_world.specs.Steps.{OneStep}
+use Rattle.ec_world.specs.World.{IsCallOf, OfUntil}
+use Rattle.ec_world.proofs.InNet.{quiet_is}
 
 pub entries_append : (xs ys : List Step) → entries_of (xs ++ ys) ≡ entries_of xs ++ entries_of ys
 entries_append [] ys = refl
@@ -93,14 +102,51 @@ module _ {C : Type 0} (stands : Ctx → Given → C → List Own → Type 0) (by
   }
 
 -- one step of settling more
-pub settles_more : (g : Geometry) (p : Come) (xs ys : List Step) → SettlesFrom p.net xs → OneStep SettlesBy (come g (entries_of xs) p) ys → SettlesFrom p.net (xs ++ ys)
-settles_more g p xs ys x y = by xs p.net x (subst (λ (m : Net). SettlesFrom m ys) (net_is g (entries_of xs) p) (one_at ys y))
+pub settles_more : (g : Geometry) (p : Come) (xs ys : List Step) → Settles p.net xs → OneStep IsSettling (come g (entries_of xs) p) ys → Settles p.net (xs ++ ys)
+settles_more g p xs ys x y = by xs p.net x (subst (λ (m : Net). Settles m ys) (net_is g (entries_of xs) p) (one_at ys y))
   where
-    one_at : (ys : List Step) → OneStep SettlesBy (come g (entries_of xs) p) ys → SettlesFrom (come g (entries_of xs) p).net ys
+    one_at : (ys : List Step) → OneStep IsSettling (come g (entries_of xs) p) ys → Settles (come g (entries_of xs) p).net ys
     one_at [] h = absurd h
     one_at (s ∷ []) h = (h.0, h.1, tt)
     one_at (s ∷ r ∷ steps) h = absurd h
 
-    by : (xs : List Step) (m : Net) → SettlesFrom m xs → SettlesFrom (run (entries_of xs) m) ys → SettlesFrom m (xs ++ ys)
+    by : (xs : List Step) (m : Net) → Settles m xs → Settles (run (entries_of xs) m) ys → Settles m (xs ++ ys)
     by [] m h k = k
-    by (s ∷ xs) m h k = (h.0, h.1, by xs (run (s.named ∷ s.follow) m) h.2 (subst (λ (z : Net). SettlesFrom z ys) (run_append (s.named ∷ s.follow) (entries_of xs) m) k))
+    by (s ∷ xs) m h k = (h.0, h.1, by xs (run (s.named ∷ s.follow) m) h.2 (subst (λ (z : Net). Settles z ys) (run_append (s.named ∷ s.follow) (entries_of xs) m) k))
+
+-- one step more, before which what has come is so
+pub before_more : (Is : Come → Type 0) (By : Net → Entry → Type 0) (g : Geometry) (xs ys : List Step) (p : Come) → EachBefore Is g p xs → Is (come g (entries_of xs) p) → OneStep By (come g (entries_of xs) p) ys → EachBefore Is g p (xs ++ ys)
+before_more Is By g [] [] p x is one = absurd one
+before_more Is By g [] (s ∷ []) p x is one = (is, tt)
+before_more Is By g [] (s ∷ r ∷ steps) p x is one = absurd one
+before_more Is By g (s ∷ xs) ys p x is one =
+    let same : come g (entries_of (s ∷ xs)) p ≡ come g (entries_of xs) (come g (s.named ∷ s.follow) p) = come_append g (s.named ∷ s.follow) (entries_of xs) p in
+    (x.0, before_more Is By g xs ys (come g (s.named ∷ s.follow) p) x.1 (subst Is same is) (subst (λ (z : Come). OneStep By z ys) same one))
+
+module _ {C : Type 0} (stands : Ctx → Given → C → List Own → Type 0) (by_table : Ctx → Given → List Own → Type 0) (Told : Type 0) where
+  -- nothing more is done
+  pub same_end : (Of : Come → List Step → Type 0) (s t u : Cluster) (c d e : Clients C) (before mid after : List Records) → u ≡ t → e ≡ d → after ≡ mid → Advances stands by_table Told Of s t c d before mid → Advances stands by_table Told Of s u c e before after
+  same_end Of s t u c d e before mid after f g k x = subst (λ (z : Cluster). Advances stands by_table Told Of s z c e before after) (sym f) (subst (λ (z : Clients C). Advances stands by_table Told Of s t c z before after) (sym g) (subst (λ (z : List Records). Advances stands by_table Told Of s t c d before z) (sym k) x))
+
+  -- steps of settling until the volume rests
+  pub rested : (n : ℕ) (s t : Cluster) (c d : Clients C) (before after : List Records) → HasClients c → Rests stands t d → Advances stands by_table Told (λ p steps. Settles p.net steps) s t c d before after → Advances stands by_table Told (OfEvent n Settle) s t c d before after
+  rested n s t c d before after many rests x = record {
+    steps = x.steps;
+    log = x.log;
+    size = x.size;
+    options = x.options;
+    many = x.many;
+    sound = x.sound;
+    leads = x.leads;
+    runs = λ told p h m.
+        let r = x.runs told p h m in
+        (r.0, r.1, (r.2, subst (λ (z : Net). IsQuiet z) (net_is c.options.geometry (entries_of x.steps) p) (quiet_is stands by_table t d after (come c.options.geometry (entries_of x.steps) p) x.sound (x.leads p h) r.1 (record { slots = x.many.slots ∙ many.slots; lives = x.many.lives ∙ many.lives }) rests)));
+  }
+
+-- the call is under way, which the client runs
+pub call_is : {C : Type 0} (c : Clients C) (j : ℕ) (r : Running C) (number : ℕ) → running_at c j ≡ Some r → IsCallOf c j number → r.number ≡ number
+call_is c j r number e k = ap (λ (z : Running _). z.number) (some_is r k.0 (sym e ∙ k.1)) ∙ k.2
+
+module _ {C P : Type 0} (stands : Ctx → Given → C → List Own → Type 0) (by_table : Ctx → Given → List Own → Type 0) (stage : C → Option P) (phase_of : P → Phase) where
+  pub until_is : (n : ℕ) (c : Clients C) (j : ℕ) (phase : Phase) (r : Running C) (p : Come) (steps : List Step) → running_at c j ≡ Some r → Settles p.net steps × EachBefore (IsUnderWay stands by_table stage phase_of j r.number phase) c.options.geometry p steps → OfUntil stands by_table stage phase_of n c j phase p steps
+  until_is n c j phase r p steps e x = (x.0, λ number k. subst (λ (z : ℕ). EachBefore (IsUnderWay stands by_table stage phase_of j z phase) c.options.geometry p steps) (call_is c j r number e k) x.1)

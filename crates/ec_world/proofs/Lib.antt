@@ -2,11 +2,15 @@ pub mod Advancing
 pub mod Becoming
 pub mod Calling
 pub mod Chaining
+pub mod Counting
 pub mod Cuts
 pub mod Delivering
 pub mod Following
+pub mod Held
 pub mod Naming
 pub mod Outcomes
 pub mod Permitting
 pub mod Settled
+pub mod InNet
 pub mod Waiting
+pub mod Whole

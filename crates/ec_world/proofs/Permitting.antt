@@ -17,7 +17,7 @@ use Rattle.ec_wire.specs.Lanes.{is_going}
 use Rattle.ec_wire.specs.declared.event.Which.{Which}
 use Rattle.ec_wire.specs.declared.event.Which.TheVariants.{Number, ToBrick, ToClient}
 use Rattle.ec_wire.specs.declared.message.Message.{Message}
-use Rattle.ec_world.specs.Refusals.{IsAwaitedBy, IsFound, brick_of, busy, bytes_refusal, call_refusal, die_refusal, give_up_refusal, return_refusal, stop_refusal, tear_refusal}
+use Rattle.ec_world.specs.Refusals.{IsAwaitedBy, IsFound, brick_of, busy, bytes_refusal, call_refusal, die_refusal, give_up_refusal, idle, return_refusal, stop_refusal, tear_refusal, until_refusal}
 use Rattle.ec_world.specs.declared.refused.Refused.{Refused}
 use Rattle.ec_world.specs.declared.refused.Refused.TheVariants.{Dead, Down, NoBrick, TooMany, Up}
 
@@ -50,8 +50,8 @@ found_flies s (ToClient client b) n e = going_flies client b false (flight s n) 
 pub may_die : {C : Type 0} (c : Clients C) (j : ℕ) → is_dead_at c j ≡ false → die_refusal c j ≡ None
 may_die c j lives = (λ i. cond (lives i) (Some (Dead j)) None)
 
-pub may_call : {C : Type 0} (c : Clients C) (j : ℕ) → is_dead_at c j ≡ false → running_at c j ≡ None → call_refusal c j ≡ None
-may_call c j lives free = (λ i. cond (lives i) (Some (Dead j)) (busy (free i)))
+pub may_call : {C : Type 0} (c : Clients C) (j : ℕ) (wrong : Option ℕ) → is_dead_at c j ≡ false → running_at c j ≡ None → wrong ≡ None → call_refusal c j wrong ≡ None
+may_call c j wrong lives free right = (λ i. cond (lives i) (Some (Dead j)) (busy (free i) (right i)))
 
 pub slot_idle : {X : Type 0} (xs : List (Option X)) (j : ℕ) → j < length xs → joined (slice_get xs j) ≡ None → slice_get xs j ≡ Some None
 slot_idle xs j lt e = let p = has_slot xs j lt in p.1 ∙ ap Some (sym (ap joined p.1) ∙ e)
@@ -80,3 +80,6 @@ may_tear s which n most bytes e up le = (λ i. bytes_refusal n (e i) (up i) (bri
   where
     enough : nat_lt most bytes ≡ false
     enough = grind (arith, nat_tests)
+
+pub may_until : {C : Type 0} (c : Clients C) (j : ℕ) (r : Running C) → is_dead_at c j ≡ false → running_at c j ≡ Some r → until_refusal c j ≡ None
+may_until c j r lives runs = (λ i. cond (lives i) (Some (Dead j)) (idle (runs i) j))

@@ -1,18 +1,27 @@
 -- Which message is next, and where none is.
 use Rattle.std.proofs.Common.{◌≡◌, ◌⊎◌, inl, inr, ℕ, ◌<◌, Bool, true, false, Option, Some, None, List, refl, sym, ◌∙◌, ap, subst}
 use Rattle.std.specs.Prelude.{is_some}
+use Rattle.ec_clients.specs.Come.{Come}
+use Rattle.ec_clients.specs.Owned.{Sees}
 use Rattle.ec_cluster.specs.Matches.{Matches}
+use Rattle.ec_cluster.specs.Sound.{IsSound}
 use Rattle.ec_cluster.specs.Views.{flight}
 use Rattle.ec_cluster.specs.declared.cluster.Cluster.{Cluster}
 use Rattle.ec_clients.specs.declared.clients.Clients.{Clients}
 use Rattle.ec_history.specs.Run.{Net}
-use Rattle.ec_history.specs.Script.{IsNext, NoneFly}
+use Rattle.ec_history.specs.Script.{IsNext, IsSettling, NoneFly}
+use Rattle.ec_conduct.specs.Given.{Given}
+use Rattle.ec_conduct.specs.Own.{Own}
 use Rattle.ec_store.specs.Records.{Records}
+use Rattle.ec_txn.specs.declared.ctx.Ctx.{Ctx}
 use Rattle.ec_wire.specs.Places.{IsLowest}
 use Rattle.ec_wire.specs.declared.entry.Entry.{Entry}
 use Rattle.ec_wire.specs.declared.message.Message.{Message}
+use Rattle.ec_world.specs.Resting.{IsFirst}
 use Rattle.ec_world.specs.Settling.{Moves}
-use Rattle.ec_world.specs.Steps.{IsGivingUp, SettlesBy}
+use Rattle.ec_world.specs.Steps.{IsGivingUp}
+use Rattle.ec_world.specs.declared.settling.Stuck.{Stuck}
+use Rattle.ec_world.proofs.InNet.{first_is, nowhere}
 
 pub next_is : (s : Cluster) (before : List Records) (m : Net) (n : ℕ) → Matches s before m → IsLowest (λ i. is_some (flight s i)) (Some n) → IsNext m n
 next_is s before m n k low = record {
@@ -30,9 +39,12 @@ none_there s low i = by (flight s i) refl
     by None e = e
     by (Some m) e = absurd (let bad : false ≡ true = sym (low i) ∙ ap is_some e in cc)
 
-pub moves_settle : {C : Type 0} (s : Cluster) (c : Clients C) (m : Net) (n : ℕ) (e : Entry) → IsNext m n → Moves s c n m e → SettlesBy m e
-moves_settle s c m n e next (inl x) = inl (n, inl x, next)
-moves_settle s c m n e next (inr x) = inl (n, inr x.0, next)
+-- the lowest message moves on, and a client gives a brick up, as settling names them
+module _ {C : Type 0} (stands : Ctx → Given → C → List Own → Type 0) (by_table : Ctx → Given → List Own → Type 0) (s : Cluster) (c : Clients C) (before : List Records) (p : Come) (sound : IsSound s) (h : Sees stands by_table s c p) (m : Matches s before p.net) where
+  pub moves_settle : (n : ℕ) (e : Entry) → IsLowest (λ i. is_some (flight s i)) (Some n) → Moves s c n p.net e → IsSettling p.net e
+  moves_settle n e low (inl (inl x)) = subst (IsSettling p.net) (sym x.2) (next_is s before p.net n m low)
+  moves_settle n e low (inl (inr x)) = subst (IsSettling p.net) (sym x) (next_is s before p.net n m low)
+  moves_settle n e low (inr x) = subst (IsSettling p.net) (sym x.0) (next_is s before p.net n m low, nowhere stands by_table s c before p sound h m n x.1)
 
-pub gives_up_settles : (m : Net) (j b n : ℕ) (e : Entry) → NoneFly m → IsGivingUp j b n m e → SettlesBy m e
-gives_up_settles m j b n e none x = inr (none, (j, b, n, x))
+  pub gives_up_settles : (x : Stuck) (e : Entry) → IsLowest (λ i. is_some (flight s i)) None → IsFirst stands s c x → IsGivingUp x.client x.brick x.no p.net e → IsSettling p.net e
+  gives_up_settles x e low first is = let f = first_is stands by_table s c before p sound h m x first in subst (IsSettling p.net) (sym is) (none_fly s before p.net m low, f.client, f.brick)

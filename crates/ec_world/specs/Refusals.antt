@@ -1,5 +1,7 @@
 -- Why an event is refused: the first of its causes that applies.
-use Rattle.std.specs.Prelude.{◌≡◌, ℕ, ◌<◌, Bool, true, false, cond, nat_lt, is_some, List, Option, Some, None}
+use Rattle.std.specs.Prelude.{◌≡◌, ℕ, ◌+◌, ◌<◌, ◌≤◌, Bool, true, false, cond, nat_eq, nat_lt, is_some, List, length, MatchOption, Option, Some, None}
+use Rattle.ec_attr.specs.Bricks.{bricks, bricks_below, is_in}
+use Rattle.ec_attr.specs.declared.geometry.Geometry.{Geometry}
 use Rattle.ec_clients.specs.Views.{is_dead_at, running_at}
 use Rattle.ec_clients.specs.declared.clients.Clients.{Clients}
 use Rattle.ec_clients.specs.declared.clients.Running.{Running}
@@ -20,6 +22,8 @@ use Rattle.ec_wire.specs.declared.event.Which.TheVariants.{Number, ToBrick, ToCl
 use Rattle.ec_wire.specs.declared.message.Body.{Body}
 use Rattle.ec_wire.specs.declared.message.Body.TheVariants.{ToBrick as AskBody, ToClient as ReplyBody}
 use Rattle.ec_wire.specs.declared.message.Message.{Message}
+use Rattle.ec_wire.specs.declared.op.Op.{Op}
+use Rattle.ec_wire.specs.declared.op.Op.TheVariants.{Read}
 use Rattle.ec_world.specs.declared.refused.Refused.{Refused}
 use Rattle.ec_world.specs.declared.refused.Refused.TheVariants.{NoMessage, NoneBetween, Busy, Idle, Dead, Down, Up, NoBrick, NotAsked, NotTearable, TooMany, NotKeeping, Unbuilt}
 
@@ -64,12 +68,31 @@ die_refusal c j = cond (is_dead_at c j) (Some (Dead j)) None
 abbrev pub yield_refusal : {C : Type 0} → Clients C → ℕ → Option Refused
 yield_refusal c j = cond (is_dead_at c j) (Some (Dead j)) (Some (NotKeeping j))
 
-abbrev pub busy : {C : Type 0} → Option (Running C) → Option Refused
-busy None = None
-busy (Some r) = Some (Busy r.number)
+-- the lowest brick of a set that isn't below n
+abbrev pub IsFirstFrom : ℕ → ℕ → Option ℕ → Type 0
+IsFirstFrom bits n first = MatchOption first (bricks bits ≡ bricks_below n (is_in bits)) (λ b. (n ≤ b) × (b < 31) × (is_in bits b ≡ true) × (bricks_below b (is_in bits) ≡ bricks_below n (is_in bits)))
 
-abbrev pub call_refusal : {C : Type 0} → Clients C → ℕ → Option Refused
-call_refusal c j = cond (is_dead_at c j) (Some (Dead j)) (busy (running_at c j))
+-- with it a set is refused, or with 31 where it has another count of bricks than suffice to read
+abbrev pub wrong_brick : Option ℕ → Bool → Option ℕ
+wrong_brick None true = None
+wrong_brick None false = Some 31
+wrong_brick (Some b) fits = Some b
+
+-- the brick with which the bricks that a read names are refused, None where they aren't
+abbrev pub IsWrongVia : Geometry → Op → Option ℕ → Type 0
+IsWrongVia g (Read gfid off len (Some bits)) o = (first : Option ℕ) × IsFirstFrom bits g.n first × (o ≡ wrong_brick first (nat_eq (length (bricks bits) + g.r) g.n))
+IsWrongVia g op o = o ≡ None
+
+abbrev pub no_brick : Option ℕ → Option Refused
+no_brick None = None
+no_brick (Some b) = Some (NoBrick b)
+
+abbrev pub busy : {C : Type 0} → Option (Running C) → Option ℕ → Option Refused
+busy None wrong = no_brick wrong
+busy (Some r) wrong = Some (Busy r.number)
+
+abbrev pub call_refusal : {C : Type 0} → Clients C → ℕ → Option ℕ → Option Refused
+call_refusal c j wrong = cond (is_dead_at c j) (Some (Dead j)) (busy (running_at c j) wrong)
 
 -- a client that is dead, or runs no call
 abbrev pub idle : {C : Type 0} → Option (Running C) → ℕ → Option Refused
@@ -106,7 +129,7 @@ tear_refusal s which (Some n) bytes = bytes_refusal n (bytes_at s n) (is_up_at s
 
 -- What refuses an event, None where nothing does. A replacement isn't built.
 abbrev pub IsRefusal : {C : Type 0} → (Ctx → Given → C → List Own → Type 0) → Cluster → Clients C → Event → Option Refused → Type 0
-IsRefusal stands s c (Call j op) o = o ≡ call_refusal c j
+IsRefusal stands s c (Call j op) o = (wrong : Option ℕ) × IsWrongVia c.options.geometry op wrong × (o ≡ call_refusal c j wrong)
 IsRefusal stands s c (Deliver which) o = (named : Option ℕ) × IsFound s which named × (o ≡ deliver_refusal s c which named)
 IsRefusal stands s c (Lose which) o = (named : Option ℕ) × IsFound s which named × (o ≡ lose_refusal which named)
 IsRefusal stands s c (GiveUp j b) o = (a : Option ℕ) × IsAwaitedBy stands (running_at c j) b a × (o ≡ give_up_refusal s c j b a)

@@ -7,6 +7,7 @@ use Rattle.ec_cluster.specs.declared.cluster.Cluster.{Cluster}
 use Rattle.ec_conduct.specs.Given.{Given}
 use Rattle.ec_conduct.specs.Own.{Own}
 use Rattle.ec_history.specs.Run.{Net}
+use Rattle.ec_history.specs.Script.{IsSettling}
 use Rattle.ec_store.specs.Records.{Records}
 use Rattle.ec_txn.specs.declared.ctx.Ctx.{Ctx}
 use Rattle.ec_wire.specs.declared.entry.Entry.{Entry}
@@ -15,7 +16,7 @@ use Rattle.ec_wire.specs.declared.message.Body.TheVariants.{ToBrick, ToClient}
 use Rattle.ec_wire.specs.declared.message.Message.{Message}
 use Rattle.ec_world.specs.Events.{Advances}
 use Rattle.ec_world.specs.Resting.{Rests}
-use Rattle.ec_world.specs.Steps.{IsDelivery, IsLoss, OneStep, SettlesBy}
+use Rattle.ec_world.specs.Steps.{IsDelivery, IsLoss, OneStep}
 
 -- a message goes to a brick that is stopped or to a client that is dead
 abbrev pub goes_nowhere : {C : Type 0} → Cluster → Clients C → Message → Body → Type 0
@@ -32,5 +33,5 @@ Moves s c i m e = IsDelivery i m e ⊎ (IsLoss i m e × GoesNowhere s c (flight 
 
 -- one step of settling, or none where the volume rests
 abbrev pub GoesOn : {C : Type 0} → (Ctx → Given → C → List Own → Type 0) → (Ctx → Given → List Own → Type 0) → Type 0 → Cluster → Cluster → Clients C → Clients C → List Records → List Records → Bool → Type 0
-GoesOn stands by_table Told s t c d before after true = Advances stands by_table Told (OneStep SettlesBy) s t c d before after
+GoesOn stands by_table Told s t c d before after true = Advances stands by_table Told (OneStep IsSettling) s t c d before after
 GoesOn stands by_table Told s t c d before after false = (t ≡ s) × (d ≡ c) × (after ≡ before) × Rests stands s c

@@ -1,8 +1,8 @@
 -- The steps that events take.
-use Rattle.std.specs.Prelude.{◌≡◌, ◌⊎◌, ℕ, ◌<◌, Bool, true, false, Option, List, [], ◌∷◌}
+use Rattle.std.specs.Prelude.{◌≡◌, ◌⊎◌, ℕ, Bool, Option, List, [], ◌∷◌}
 use Rattle.ec_clients.specs.Come.{Come}
-use Rattle.ec_history.specs.Run.{Net, run}
-use Rattle.ec_history.specs.Script.{AllFollow, IsNext, NoneFly, Step}
+use Rattle.ec_history.specs.Run.{Net}
+use Rattle.ec_history.specs.Script.{AllFollow, Step}
 use Rattle.ec_wire.specs.declared.entry.Entry.{Entry}
 use Rattle.ec_wire.specs.declared.entry.Entry.TheVariants.{Executed, GivenUp, Heard, Lost, Torn}
 
@@ -27,12 +27,3 @@ IsGivingUp j b i m e = e ≡ GivenUp j b i
 -- write i is cut short after so many bytes
 abbrev pub IsTear : ℕ → ℕ → Net → Entry → Type 0
 IsTear i bytes m e = (version : Option ℕ) × (e ≡ Torn i bytes version)
-
--- A step of settling: the lowest message in flight is delivered or lost, or, where none is in flight, a brick is given up.
-abbrev pub SettlesBy : Net → Entry → Type 0
-SettlesBy m e = ((i : ℕ) × (IsDelivery i m e ⊎ IsLoss i m e) × IsNext m i) ⊎ (NoneFly m × ((j : ℕ) × (b : ℕ) × (i : ℕ) × IsGivingUp j b i m e))
-
--- steps of settling, one after the other
-abbrev pub SettlesFrom : Net → List Step → Type 0
-SettlesFrom m [] = Unit {0}
-SettlesFrom m (s ∷ steps) = SettlesBy m s.named × AllFollow s × SettlesFrom (run (s.named ∷ s.follow) m) steps

@@ -50,19 +50,29 @@ pub fn yield_grants<C>(clients: &Clients<C>, client: u8) -> Refused
     }
 }
 
-/// A client calls.
+/// No call has a greater number.
+const LAST_CALL: u32 = 0xffff_ffff;
+
+/// Whether no number is left for another call.
+fn are_spent<C>(clients: &Clients<C>) -> bool
+    ensures { result ≡ false → clients.now.calls < 2 ^ 32 - 1 }
+{
+    clients.calls() >= LAST_CALL
+}
+
+/// A client calls. Where the numbers of calls are used up it ends as want of memory. `wrong` is the brick with which the bricks that the call names are refused.
 pub fn call<T, C: Begins<T>>(
     clients: &mut Clients<C>,
     cluster: &mut Cluster,
     alloc: Global,
     client: u8,
     op: &Op,
+    wrong: Option<u8>,
 ) -> Result<(), Refused>
     requires sound { IsSound cluster.old }
     requires size { size_of cluster.old ≡ clients.old.options.geometry.n }
     requires there { client < length (slots_of clients.old) }
-    requires calls { clients.old.calls < 2 ^ 32 - 1 }
-    ensures { (records : List Records) → Stepped C.stands (tabled C.begins C.goes) (Unit {0}) (OfEvent (size_of cluster.old) (CallOf client op.now)) cluster.old cluster.new clients.old clients.new records records (call_refusal clients.old client) result }
+    ensures { (records : List Records) → Stepped C.stands (tabled C.begins C.goes) (Unit {0}) (OfEvent (size_of cluster.old) (CallOf client op.now)) cluster.old cluster.new clients.old clients.new records records (call_refusal clients.old client wrong) result }
 {
     if clients.is_dead(client) {
         return Err(Refused::Dead(client));
@@ -70,6 +80,13 @@ pub fn call<T, C: Begins<T>>(
     match clients.running(client) {
         Some(running) => return Err(Refused::Busy(running.number)),
         None => {}
+    }
+    match wrong {
+        Some(brick) => return Err(Refused::NoBrick(brick)),
+        None => {}
+    }
+    if are_spent(clients) {
+        return Err(Refused::NoMemory);
     }
     match ec_clients::begin::<T, C>(clients, cluster, alloc, client, op) {
         Ok(()) => Ok(()),

@@ -17,6 +17,9 @@ mod obeying;
 mod refused;
 mod settling;
 mod tearing;
+mod unanswered;
+mod via;
+mod world;
 
 pub use address::Address;
 pub use bricks::{cut, execute, lose, lose_one, return_brick, stop};
@@ -28,3 +31,5 @@ pub use obeying::obey;
 pub use refused::Refused;
 pub use settling::{Stuck, settle, until};
 pub use tearing::tear;
+pub use via::bad_via;
+pub use world::World;

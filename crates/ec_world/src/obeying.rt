@@ -18,6 +18,7 @@ use crate::named::find;
 use crate::refused::Refused;
 use crate::settling::{settle, until};
 use crate::tearing::tear;
+use crate::via::bad_via;
 use ec_clients::{Begins, Clients};
 use ec_cluster::Cluster;
 use ec_store::BrickStore;
@@ -38,12 +39,15 @@ pub fn obey<S: BrickStore, T, C: Begins<T>>(
     requires many { HasClients clients.old }
     requires sees { (p : Come) × Sees C.stands (tabled C.begins C.goes) cluster.old clients.old p }
     requires stores { length stores.old ≡ size_of cluster.old }
-    requires fits { FitsEvent clients.old event.now }
+    requires fits { FitsEvent event.now }
     ensures tells { list_all S.told stores.new ≡ list_all S.told stores.old }
     ensures outcome { Outcome C.stands (tabled C.begins C.goes) (list_all S.told stores.old ≡ true) event.now cluster.old cluster.new clients.old clients.new (map S.records stores.old) (map S.records stores.new) result }
 {
     match event {
-        Event::Call { client, op } => call::<T, C>(clients, cluster, alloc, *client, op),
+        Event::Call { client, op } => {
+            let wrong = bad_via(&clients.options().geometry, op);
+            call::<T, C>(clients, cluster, alloc, *client, op, wrong)
+        }
         Event::Deliver(which) => {
             let named = find(cluster, *which);
             deliver::<S, T, C>(clients, cluster, stores, alloc, rows, *which, named)

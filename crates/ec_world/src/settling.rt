@@ -1,17 +1,19 @@
 // Settling: steps until none is left that applies.
-ghost use Rattle.std.specs.Prelude.{◌≡◌, ◌<◌, ◌≤◌, ◌⊎◌, ℕ, None, IfOk, IfSome, IsTrue, OnErr, OnOk, length, map, true};
+ghost use Rattle.std.specs.Prelude.{◌≡◌, ◌<◌, ◌≤◌, ◌⊎◌, ℕ, None, IfOk, IfSome, IsTrue, OnErr, OnOk, false, length, map, true};
 ghost use Rattle.std.specs.List.{list_all};
+ghost use Rattle.ec_clients.specs.Beginning.{HasClients};
 ghost use Rattle.ec_clients.specs.Calls.{tabled};
 ghost use Rattle.ec_clients.specs.Come.{Come};
 ghost use Rattle.ec_clients.specs.Owned.{Sees};
 ghost use Rattle.ec_cluster.specs.Sound.{IsSound};
 ghost use Rattle.ec_cluster.specs.Views.{size_of};
-ghost use Rattle.ec_wire.specs.declared.event.Event.TheVariants.{Settle, Until};
+ghost use Rattle.ec_wire.specs.declared.event.Event.TheVariants.{Settle};
 ghost use Rattle.ec_world.specs.Events.{Breaks, OfEvent, Stepped};
+ghost use Rattle.ec_world.specs.Quiet.{IsStill};
 ghost use Rattle.ec_world.specs.Refusals.{until_refusal};
 ghost use Rattle.ec_world.specs.Resting.{IsFirst, IsFree, IsFreeBelow, IsFreeOf, IsStuckAt, IsStuckBy, Rests};
 ghost use Rattle.ec_world.specs.Settling.{GoesOn};
-ghost use Rattle.ec_world.specs.World.{IsCallOf, IsPast};
+ghost use Rattle.ec_world.specs.World.{IsCallOf, IsPast, OfUntil};
 
 use crate::clients::{awaited, leave_one};
 use crate::delivery::move_on;
@@ -145,6 +147,7 @@ pub fn settle<S: BrickStore, T, C: Call<T>>(
     requires sound { IsSound cluster.old }
     requires size { size_of cluster.old ≡ clients.old.options.geometry.n }
     requires sees { (p : Come) × Sees C.stands (tabled C.begins C.goes) cluster.old clients.old p }
+    requires many { HasClients clients.old }
     requires stores { length stores.old ≡ size_of cluster.old }
     ensures tells { list_all S.told stores.new ≡ list_all S.told stores.old }
     ensures stepped { Stepped C.stands (tabled C.begins C.goes) (list_all S.told stores.old ≡ true) (OfEvent (size_of cluster.old) Settle) cluster.old cluster.new clients.old clients.new (map S.records stores.old) (map S.records stores.new) None result }
@@ -162,7 +165,8 @@ pub fn settle<S: BrickStore, T, C: Call<T>>(
 
 /// Whether the call of this number that a client runs is over, or is in the phase.
 fn is_over<T, C: Call<T>>(clients: &Clients<C>, client: u8, number: u32, phase: Phase) -> bool
-    ensures { IsTrue result → IsPast C.stage C.phase_of clients.now client number phase }
+    ensures over { IsTrue result → IsPast C.stage C.phase_of clients.now client number phase }
+    ensures still { result ≡ false → IsStill C.stage C.phase_of clients.now client number phase }
 {
     match clients.running(client) {
         Some(running) => {
@@ -172,7 +176,8 @@ fn is_over<T, C: Call<T>>(clients: &Clients<C>, client: u8, number: u32, phase: 
     }
 }
 
-/// Steps of settling until the client's call is over or in the phase, or none is left that applies.
+/// Steps of settling until the client's call is over or in the phase, or none is left that applies: no step is taken once
+/// the call is so.
 pub fn until<S: BrickStore, T, C: Call<T>>(
     clients: &mut Clients<C>,
     cluster: &mut Cluster,
@@ -187,7 +192,7 @@ pub fn until<S: BrickStore, T, C: Call<T>>(
     requires sees { (p : Come) × Sees C.stands (tabled C.begins C.goes) cluster.old clients.old p }
     requires stores { length stores.old ≡ size_of cluster.old }
     ensures tells { list_all S.told stores.new ≡ list_all S.told stores.old }
-    ensures stepped { Stepped C.stands (tabled C.begins C.goes) (list_all S.told stores.old ≡ true) (OfEvent (size_of cluster.old) (Until client phase)) cluster.old cluster.new clients.old clients.new (map S.records stores.old) (map S.records stores.new) (until_refusal clients.old client) result }
+    ensures stepped { Stepped C.stands (tabled C.begins C.goes) (list_all S.told stores.old ≡ true) (OfUntil C.stands (tabled C.begins C.goes) C.stage C.phase_of (size_of cluster.old) clients.old client phase) cluster.old cluster.new clients.old clients.new (map S.records stores.old) (map S.records stores.new) (until_refusal clients.old client) result }
     ensures ends { OnOk result (Rests C.stands cluster.new clients.new ⊎ ((number : ℕ) × IsCallOf clients.old client number × IsPast C.stage C.phase_of clients.new client number phase)) }
 {
     if clients.is_dead(client) {

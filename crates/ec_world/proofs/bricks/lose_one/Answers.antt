@@ -7,7 +7,7 @@ use Rattle.ec_world.proofs.Advancing.{brick_advances, same_breaks}
 use Rattle.ec_world.proofs.bricks.lose_one.Goals as goal
 
 pub returns-in-Ok : goal.returns-in-Ok
-returns-in-Ok g c = λ records. (refl, brick_advances g.C.Conduct.stands (tabled g.C.Conduct.begins g.C.Conduct.goes) c.brick_law.ensures (Unit {0}) (IsLoss c.args.no) c.args.cluster.now c.lose.new.self c.args.clients.now records (Lost c.args.no) [] c.requires.sound c.in-Ok.ensures.ok (refl, tt) (tt, tt) refl (λ m. refl))
+returns-in-Ok g c = λ records. (refl, brick_advances g.C.Conduct.stands (tabled g.C.Conduct.begins g.C.Conduct.goes) c.brick_law.ensures (Unit {0}) (IsLoss c.args.no) c.args.cluster.now c.lose.new.self c.args.clients.now records (Lost c.args.no) [] c.requires.sound c.in-Ok.ensures.ok (refl, tt) (tt, tt) (tt, tt) refl (λ m. refl))
 
 pub returns-in-Err : goal.returns-in-Err
 returns-in-Err g c = λ records. same_breaks g.C.Conduct.stands (tabled g.C.Conduct.begins g.C.Conduct.goes) (Unit {0}) c.args.cluster.now c.lose.new.self c.args.clients.now records (ap log_of c.in-Err.ensures.err)

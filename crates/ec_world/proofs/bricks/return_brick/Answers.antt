@@ -11,7 +11,7 @@ use Rattle.ec_world.proofs.Permitting.{may_return}
 use Rattle.ec_world.proofs.bricks.return_brick.Goals as goal
 
 pub returns-in-Ok : goal.returns-in-Ok
-returns-in-Ok g c = λ records. (may_return c.args.cluster.now c.args.brick (omega (arith, c.from.ensures, ap (λ (xs : List Brick). length xs) c.bricks.ensures)) (sym c.if-is_up.ensures), named_advances g.C.Conduct.stands (tabled g.C.Conduct.begins g.C.Conduct.goes) (Unit {0}) (Return c.args.brick) c.args.cluster.now c.start.new.self c.args.clients.now c.args.clients.now records records (brick_advances g.C.Conduct.stands (tabled g.C.Conduct.begins g.C.Conduct.goes) c.brick_law.ensures (Unit {0}) (λ m e. Names m (Return c.args.brick) e) c.args.cluster.now c.start.new.self c.args.clients.now records (Returned c.args.brick) [] c.requires.sound c.in-Ok.ensures.ok (refl, tt) (tt, tt) refl (λ m. refl)))
+returns-in-Ok g c = λ records. (may_return c.args.cluster.now c.args.brick (omega (arith, c.from.ensures, ap (λ (xs : List Brick). length xs) c.bricks.ensures)) (sym c.if-is_up.ensures), named_advances g.C.Conduct.stands (tabled g.C.Conduct.begins g.C.Conduct.goes) (Unit {0}) (Return c.args.brick) c.args.cluster.now c.start.new.self c.args.clients.now c.args.clients.now records records (brick_advances g.C.Conduct.stands (tabled g.C.Conduct.begins g.C.Conduct.goes) c.brick_law.ensures (Unit {0}) (λ m e. Names m (Return c.args.brick) e) c.args.cluster.now c.start.new.self c.args.clients.now records (Returned c.args.brick) [] c.requires.sound c.in-Ok.ensures.ok (refl, tt) (tt, tt) (tt, tt) refl (λ m. refl)))
 
 pub returns-in-Err : goal.returns-in-Err
 returns-in-Err g c = λ records. same_breaks g.C.Conduct.stands (tabled g.C.Conduct.begins g.C.Conduct.goes) (Unit {0}) c.args.cluster.now c.start.new.self c.args.clients.now records (ap log_of c.in-Err.ensures.err)

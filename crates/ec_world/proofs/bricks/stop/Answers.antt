@@ -11,7 +11,7 @@ use Rattle.ec_world.proofs.Permitting.{may_stop}
 use Rattle.ec_world.proofs.bricks.stop.Goals as goal
 
 pub returns-in-Ok : goal.returns-in-Ok
-returns-in-Ok g c = λ records. (may_stop c.args.cluster.now c.args.brick (omega (arith, c.from.ensures, ap (λ (xs : List Brick). length xs) c.bricks.ensures)) (sym c.if-not-is_up.ensures), named_advances g.C.Conduct.stands (tabled g.C.Conduct.begins g.C.Conduct.goes) (Unit {0}) (Stop c.args.brick) c.args.cluster.now c.stop.new.self c.args.clients.now c.args.clients.now records records (brick_advances g.C.Conduct.stands (tabled g.C.Conduct.begins g.C.Conduct.goes) c.brick_law.ensures (Unit {0}) (λ m e. Names m (Stop c.args.brick) e) c.args.cluster.now c.stop.new.self c.args.clients.now records (Stopped c.args.brick) [] c.requires.sound c.in-Ok.ensures.ok (refl, tt) (tt, tt) refl (λ m. refl)))
+returns-in-Ok g c = λ records. (may_stop c.args.cluster.now c.args.brick (omega (arith, c.from.ensures, ap (λ (xs : List Brick). length xs) c.bricks.ensures)) (sym c.if-not-is_up.ensures), named_advances g.C.Conduct.stands (tabled g.C.Conduct.begins g.C.Conduct.goes) (Unit {0}) (Stop c.args.brick) c.args.cluster.now c.stop.new.self c.args.clients.now c.args.clients.now records records (brick_advances g.C.Conduct.stands (tabled g.C.Conduct.begins g.C.Conduct.goes) c.brick_law.ensures (Unit {0}) (λ m e. Names m (Stop c.args.brick) e) c.args.cluster.now c.stop.new.self c.args.clients.now records (Stopped c.args.brick) [] c.requires.sound c.in-Ok.ensures.ok (refl, tt) (tt, tt) (tt, tt) refl (λ m. refl)))
 
 pub returns-in-Err : goal.returns-in-Err
 returns-in-Err g c = λ records. same_breaks g.C.Conduct.stands (tabled g.C.Conduct.begins g.C.Conduct.goes) (Unit {0}) c.args.cluster.now c.stop.new.self c.args.clients.now records (ap log_of c.in-Err.ensures.err)

@@ -17,7 +17,7 @@ pub hear_awaited-requires-clause-seen : goal.hear_awaited-requires-clause-seen
 hear_awaited-requires-clause-seen g c = (c.requires.sees.0, c.requires.sees.1.seen)
 
 pub returns-in-Ok : goal.returns-in-Ok
-returns-in-Ok g c = λ records. (refl, hears_advances g.C.Conduct.stands (tabled g.C.Conduct.begins g.C.Conduct.goes) (Unit {0}) (IsDelivery c.args.no) c.args.cluster.now c.hear_awaited.new.cluster c.args.clients.now c.hear_awaited.new.clients records c.args.no c.args.call c.args.client c.args.brick c.args.re (c.is_awaited.ensures.yes c.if-is_awaited.true) c.in-Ok.ensures.ok c.in-Ok.ensures.options c.in-Ok.ensures.many (λ m. inr refl))
+returns-in-Ok g c = λ records. (refl, hears_advances g.C.Conduct.stands (tabled g.C.Conduct.begins g.C.Conduct.goes) (Unit {0}) (IsDelivery c.args.no) c.args.cluster.now c.hear_awaited.new.cluster c.args.clients.now c.hear_awaited.new.clients records c.args.no c.args.call c.args.client c.args.brick c.args.re c.requires.size (c.is_awaited.ensures.yes c.if-is_awaited.true) c.in-Ok.ensures.ok c.in-Ok.ensures.options c.in-Ok.ensures.many (λ m. inr refl))
 
 pub returns-in-Err : goal.returns-in-Err
 returns-in-Err g c = λ records. goes_breaks g.C.Conduct.stands (tabled g.C.Conduct.begins g.C.Conduct.goes) (Unit {0}) c.args.cluster.now c.hear_awaited.new.cluster c.args.clients.now records c.in-Err.ensures.err

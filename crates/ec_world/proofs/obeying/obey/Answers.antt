@@ -1,13 +1,18 @@
-use Rattle.std.proofs.Common.{Err, map, refl, sym, true, ◌≡◌}
+use Rattle.std.proofs.Common.{Err, map, refl, subst, sym, true, ◌≡◌}
 use Rattle.std.specs.List.{list_all}
 use Rattle.ec_clients.specs.Calls.{tabled}
+use Rattle.ec_clients.specs.declared.options.Options.{Options}
+use Rattle.ec_cluster.specs.Views.{size_of}
 use Rattle.ec_wire.specs.declared.event.Event.TheVariants.{Call, Cut, Deliver, Die, GiveUp, Lose, Return, Stop, Tear, Until, Yield}
-use Rattle.ec_world.specs.Refusals.{call_refusal, deliver_refusal, die_refusal, give_up_refusal, lose_refusal, return_refusal, stop_refusal, tear_refusal, until_refusal, yield_refusal}
+use Rattle.ec_world.specs.Refusals.{IsWrongVia, call_refusal, deliver_refusal, die_refusal, give_up_refusal, lose_refusal, return_refusal, stop_refusal, tear_refusal, until_refusal, yield_refusal}
+use Rattle.ec_world.specs.Events.{OfEvent}
+use Rattle.ec_world.specs.World.{OfUntil}
+use Rattle.ec_world.proofs.Becoming.{stepped_as}
 use Rattle.ec_world.proofs.Outcomes.{refuses_same, store_outcome, told_outcome}
 use Rattle.ec_world.proofs.obeying.obey.Goals as goal
 
 pub returns-in-Call-clause-outcome : goal.returns-in-Call-clause-outcome
-returns-in-Call-clause-outcome g c = told_outcome g.C.Conduct.stands (tabled g.C.Conduct.begins g.C.Conduct.goes) (list_all g.S.BrickStore.told c.args.stores.now ≡ true) (Call c.in-Call.client c.in-Call.op) c.args.event.now c.in-Call.is c.args.cluster.now c.call.new.cluster c.args.clients.now c.call.new.clients (map g.S.BrickStore.records c.args.stores.now) (call_refusal c.args.clients.now c.in-Call.client) c.call.result refl (c.call.ensures (map g.S.BrickStore.records c.args.stores.now))
+returns-in-Call-clause-outcome g c = told_outcome g.C.Conduct.stands (tabled g.C.Conduct.begins g.C.Conduct.goes) (list_all g.S.BrickStore.told c.args.stores.now ≡ true) (Call c.in-Call.client c.in-Call.op) c.args.event.now c.in-Call.is c.args.cluster.now c.call.new.cluster c.args.clients.now c.call.new.clients (map g.S.BrickStore.records c.args.stores.now) (call_refusal c.args.clients.now c.in-Call.client c.bad_via-wrong.result) c.call.result (c.bad_via-wrong.result, subst (λ (o : Options). IsWrongVia o.geometry c.in-Call.op c.bad_via-wrong.result) c.options.ensures c.bad_via-wrong.ensures, refl) (c.call.ensures (map g.S.BrickStore.records c.args.stores.now))
 
 pub returns-in-Deliver-clause-outcome : goal.returns-in-Deliver-clause-outcome
 returns-in-Deliver-clause-outcome g c = store_outcome g.C.Conduct.stands (tabled g.C.Conduct.begins g.C.Conduct.goes) (list_all g.S.BrickStore.told c.args.stores.now ≡ true) (Deliver c.in-Deliver.which) c.args.event.now c.in-Deliver.is c.args.cluster.now c.deliver.new.cluster c.args.clients.now c.deliver.new.clients (map g.S.BrickStore.records c.args.stores.now) (map g.S.BrickStore.records c.deliver.new.stores) (deliver_refusal c.args.cluster.now c.args.clients.now c.in-Deliver.which c.find-named.result) c.deliver.result (c.find-named.result, c.find-named.ensures.found, refl) c.deliver.ensures.stepped
@@ -37,4 +42,4 @@ pub returns-in-Yield-clause-outcome : goal.returns-in-Yield-clause-outcome
 returns-in-Yield-clause-outcome g c = store_outcome g.C.Conduct.stands (tabled g.C.Conduct.begins g.C.Conduct.goes) (list_all g.S.BrickStore.told c.args.stores.now ≡ true) (Yield c.in-Yield.client) c.args.event.now c.in-Yield.is c.args.cluster.now c.args.cluster.now c.args.clients.now c.args.clients.now (map g.S.BrickStore.records c.args.stores.now) (map g.S.BrickStore.records c.args.stores.now) (yield_refusal c.args.clients.now c.in-Yield.client) (Err c.yield_grants.result) refl (refuses_same g.C.Conduct.stands (tabled g.C.Conduct.begins g.C.Conduct.goes) (list_all g.S.BrickStore.told c.args.stores.now ≡ true) c.args.cluster.now c.args.clients.now (map g.S.BrickStore.records c.args.stores.now) (yield_refusal c.args.clients.now c.in-Yield.client) c.yield_grants.result (sym c.yield_grants.ensures))
 
 pub returns-in-Until-clause-outcome : goal.returns-in-Until-clause-outcome
-returns-in-Until-clause-outcome g c = store_outcome g.C.Conduct.stands (tabled g.C.Conduct.begins g.C.Conduct.goes) (list_all g.S.BrickStore.told c.args.stores.now ≡ true) (Until c.in-Until.client c.in-Until.phase) c.args.event.now c.in-Until.is c.args.cluster.now c.until.new.cluster c.args.clients.now c.until.new.clients (map g.S.BrickStore.records c.args.stores.now) (map g.S.BrickStore.records c.until.new.stores) (until_refusal c.args.clients.now c.in-Until.client) c.until.result refl c.until.ensures.stepped
+returns-in-Until-clause-outcome g c = store_outcome g.C.Conduct.stands (tabled g.C.Conduct.begins g.C.Conduct.goes) (list_all g.S.BrickStore.told c.args.stores.now ≡ true) (Until c.in-Until.client c.in-Until.phase) c.args.event.now c.in-Until.is c.args.cluster.now c.until.new.cluster c.args.clients.now c.until.new.clients (map g.S.BrickStore.records c.args.stores.now) (map g.S.BrickStore.records c.until.new.stores) (until_refusal c.args.clients.now c.in-Until.client) c.until.result refl (stepped_as g.C.Conduct.stands (tabled g.C.Conduct.begins g.C.Conduct.goes) (list_all g.S.BrickStore.told c.args.stores.now ≡ true) (list_all g.S.BrickStore.told c.args.stores.now ≡ true) (OfUntil g.C.Conduct.stands (tabled g.C.Conduct.begins g.C.Conduct.goes) g.C.Conduct.stage g.C.Conduct.phase_of (size_of c.args.cluster.now) c.args.clients.now c.in-Until.client c.in-Until.phase) (OfEvent (size_of c.args.cluster.now) (Until c.in-Until.client c.in-Until.phase)) c.args.cluster.now c.until.new.cluster c.args.clients.now c.until.new.clients (map g.S.BrickStore.records c.args.stores.now) (map g.S.BrickStore.records c.until.new.stores) (λ t. t) (λ p steps h m x. x.0) (until_refusal c.args.clients.now c.in-Until.client) (until_refusal c.args.clients.now c.in-Until.client) (λ e. e) (λ e y. y) c.until.result c.until.ensures.stepped)

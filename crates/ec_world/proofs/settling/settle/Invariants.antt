@@ -2,12 +2,12 @@
 use Rattle.std.proofs.Common.{◌≡◌, map, true}
 use Rattle.std.specs.List.{list_all}
 use Rattle.ec_clients.specs.Calls.{tabled}
+use Rattle.ec_history.specs.Script.{Settles}
 use Rattle.ec_world.specs.Events.{Advances}
-use Rattle.ec_world.specs.Steps.{SettlesFrom}
 use Rattle.ec_world.proofs.settling.settle.Given as goal
 
 abbrev pub invariant-loop : goal.invariant-loop
 invariant-loop g l = record {
   tells : list_all g.S.BrickStore.told l.stores ≡ list_all g.S.BrickStore.told l.initial.stores;
-  adv : Advances g.C.Conduct.stands (tabled g.C.Conduct.begins g.C.Conduct.goes) (list_all g.S.BrickStore.told l.initial.stores ≡ true) (λ p steps. SettlesFrom p.net steps) l.initial.cluster l.cluster l.initial.clients l.clients (map g.S.BrickStore.records l.initial.stores) (map g.S.BrickStore.records l.stores);
+  adv : Advances g.C.Conduct.stands (tabled g.C.Conduct.begins g.C.Conduct.goes) (list_all g.S.BrickStore.told l.initial.stores ≡ true) (λ p steps. Settles p.net steps) l.initial.cluster l.cluster l.initial.clients l.clients (map g.S.BrickStore.records l.initial.stores) (map g.S.BrickStore.records l.stores);
 }

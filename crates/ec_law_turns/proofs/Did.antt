@@ -1,5 +1,5 @@
 -- What the acts of an entry make of Queries, PreOps and PostOps that were executed.
-use Rattle.std.proofs.Common.{◌≡◌, ◌⊎◌, ℕ, Bool, true, false, cond, ◌==◌, ◌&&◌, Option, Some, None, List, [], ◌∷◌, ◌++◌, refl, sym, ◌∙◌, ap, subst, inl, inr}
+use Rattle.std.proofs.Common.{◌≡◌, ◌⊎◌, ℕ, Bool, true, false, not, cond, ◌==◌, ◌&&◌, Option, Some, None, List, [], ◌∷◌, ◌++◌, refl, sym, ◌∙◌, ap, subst, inl, inr}
 use Rattle.std.specs.Prelude.{is_some}
 use Rattle.ec_attr.specs.Marks.{is_marked}
 use Rattle.ec_attr.specs.declared.kind.Domain.TheVariants.{Inode, Heal}
@@ -11,7 +11,7 @@ use Rattle.ec_wire.specs.declared.request.Request.{Request}
 use Rattle.ec_wire.specs.declared.request.Request.TheVariants.{Query, PreOp, PostOp, Clear, Make, Made, Unmake, Mark, Unmark}
 use Rattle.ec_brick.specs.Replies.{Says}
 use Rattle.ec_conduct.specs.Account.{gfid_of}
-use Rattle.ec_conduct.specs.Done.{is_post, is_pre, is_query}
+use Rattle.ec_conduct.specs.Done.{is_post, is_query}
 use Rattle.ec_history.specs.Run.{Net, call_of, is_number, out_of}
 use Rattle.ec_history.specs.Story.{is_done}
 use Rattle.ec_law_base.specs.State.{Head, State, put2}
@@ -20,6 +20,7 @@ use Rattle.ec_law_ballots.specs.Act.Act.{Choose, Grant, Free, Moment, See, Pre, 
 use Rattle.ec_law_ballots.specs.Words.{saw}
 use Rattle.ec_law_net.specs.Turns.{View, acts_changed, acts_done, acts_locks, acts_maker, acts_of_request, acts_sent, acts_shown, acts_torn, acts_worked, counted, exclusive, freed, granted, has_directory, is_shown, moment_of}
 use Rattle.ec_law_net.proofs.Changed.{after_both}
+use Rattle.ec_law_turns.specs.Once.{is_plain_pre}
 use Rattle.ec_law_turns.proofs.Basics.{equal}
 
 -- nothing more was executed
@@ -90,7 +91,7 @@ replaced false b = same
 -- one more was executed at most: that of turn a at brick b, by a request of the gfid
 pub record Grows (g a b : ℕ) (q : Request) (s t : State) : Type 0 where
   pub seen : (x c : ℕ) → saw t x c ≡ true → (saw s x c ≡ true) ⊎ ((x ≡ a) × (c ≡ b) × (is_query q ≡ true) × (gfid_of q ≡ Some g))
-  pub pre : (x c : ℕ) → t.pre x c ≡ true → (s.pre x c ≡ true) ⊎ ((x ≡ a) × (c ≡ b) × (is_pre q ≡ true) × (gfid_of q ≡ Some g))
+  pub pre : (x c : ℕ) → t.pre x c ≡ true → (s.pre x c ≡ true) ⊎ ((x ≡ a) × (c ≡ b) × (is_plain_pre q ≡ true) × (gfid_of q ≡ Some g))
   pub post : (x c : ℕ) → t.post x c ≡ true → (s.post x c ≡ true) ⊎ ((x ≡ a) × (c ≡ b) × (is_post q ≡ true) × (gfid_of q ≡ Some g))
 
 by_same : (g a b : ℕ) (q : Request) (s t : State) → Same s t → Grows g a b q s t
@@ -121,16 +122,16 @@ module _ (g a b : ℕ) (s : State) where
   gfid_is x e = ap (λ (y : ℕ). Some y) (equal x g e)
 
   done : (q : Request) → Grows g a b q s (after (acts_done g a b q) s)
-  done (PreOp x n at number) = here (x.0 == g) (is_marked at) refl
+  done (PreOp x n at number) = here (x.0 == g) (is_marked at) refl refl
     where
-      here : (t u : Bool) → (x.0 == g) ≡ t → Grows g a b (PreOp x n at number) s (after (cond t (cond u (Sink_pre a b) (Pre a b) ∷ []) []) s)
-      here false u e = by_same g a b (PreOp x n at number) s s (same s)
-      here true true e = by_same g a b (PreOp x n at number) s (step s (Sink_pre a b)) (record { seen = refl; pre = refl; post = refl })
-      here true false e = record { seen = λ y c h. inl h; pre = λ y c h. more (hit s.pre a b y c h); post = λ y c h. inl h }
+      here : (t u : Bool) → (x.0 == g) ≡ t → is_marked at ≡ u → Grows g a b (PreOp x n at number) s (after (cond t (cond u (Sink_pre a b) (Pre a b) ∷ []) []) s)
+      here false u e f = by_same g a b (PreOp x n at number) s s (same s)
+      here true true e f = by_same g a b (PreOp x n at number) s (step s (Sink_pre a b)) (record { seen = refl; pre = refl; post = refl })
+      here true false e f = record { seen = λ y c h. inl h; pre = λ y c h. more (hit s.pre a b y c h); post = λ y c h. inl h }
         where
-          more : {P : Type 0} → {y c : ℕ} → P ⊎ ((y ≡ a) × (c ≡ b)) → P ⊎ ((y ≡ a) × (c ≡ b) × (true ≡ true) × (Some x.0 ≡ Some g))
+          more : {P : Type 0} → {y c : ℕ} → P ⊎ ((y ≡ a) × (c ≡ b)) → P ⊎ ((y ≡ a) × (c ≡ b) × (not (is_marked at) ≡ true) × (Some x.0 ≡ Some g))
           more (inl h) = inl h
-          more (inr h) = inr (h.0, h.1, refl, gfid_is x.0 e)
+          more (inr h) = inr (h.0, h.1, ap not f, gfid_is x.0 e)
   done (PostOp x n at version size attr) = here (x.0 == g) (is_marked at) refl
     where
       here : (t u : Bool) → (x.0 == g) ≡ t → Grows g a b (PostOp x n at version size attr) s (after (cond t (cond u (Sink_post a b) (Post a b) ∷ []) []) s)

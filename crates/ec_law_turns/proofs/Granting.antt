@@ -37,7 +37,7 @@ pub data LetsIn (old new : List Asking) (ws : List Waiter) : Type 0 where
   Nobody : ws ≡ [] → LetsIn old new ws
   Some_leave : (l : Leaving) → ws ≡ granted l old → new ≡ filter (stays l) old → LetsIn old new ws
 
-lets_in : (s : Brick) (f : Failing) (client number : ℕ) (q : Request) → LetsIn s.asks (executed s f client number q).brick.asks (executed s f client number q).lets_in
+pub lets_in : (s : Brick) (f : Failing) (client number : ℕ) (q : Request) → LetsIn s.asks (executed s f client number q).brick.asks (executed s f client number q).lets_in
 lets_in s f client number (Ask x domain kind) = Nobody refl
 lets_in s f client number (Release x n) = Some_leave (Number n) refl refl
 lets_in s Fine client number (GfidsAfter start dirty) = Nobody refl
@@ -62,7 +62,7 @@ lets_in s f client number (Unmark x i at dirty) = Nobody (row_lets_in s f (work 
 
 -- ## What is owed
 
-each_asks : (m : Net) (b : ℕ) (asks : List Asking) → AreAsks m b asks → Each (IsAskOf m b) asks
+pub each_asks : (m : Net) (b : ℕ) (asks : List Asking) → AreAsks m b asks → Each (IsAskOf m b) asks
 each_asks m b [] h = tt
 each_asks m b (a ∷ asks) h = (h.0, each_asks m b asks h.1)
 

@@ -1,6 +1,7 @@
 -- A Query, a PreOp and a PostOp go to a brick once in a turn, and the machine did only what a message asked for.
 use Rattle.std.proofs.Common.{◌≡◌, ◌≢◌, ◌⊎◌, ℕ, ◌-◌, ◌^◌, ◌≤◌, Bool, true, false, not, cond, ◌==◌, ◌&&◌, Option, Some, None, refl, sym, ◌∙◌, ap, subst, arith, ⊎_elim}
 use Rattle.std.specs.Prelude.{is_some, unwrap_or}
+use Rattle.ec_attr.specs.Marks.{is_marked}
 use Rattle.ec_attr.specs.declared.geometry.Geometry.{Geometry}
 use Rattle.ec_store.specs.Put.{put}
 use Rattle.ec_wire.specs.declared.entry.Entry.{Entry}
@@ -24,7 +25,7 @@ use Rattle.ec_law_net.specs.Turns.{View, acts_executed, acts_of_request, acts_se
 use Rattle.ec_law_net.proofs.Guarded.{IsGuarded}
 use Rattle.ec_law_turns.specs.Follows.{Follows, IsSaid}
 use Rattle.ec_law_turns.specs.Known.{Known}
-use Rattle.ec_law_turns.specs.Once.{IsIn, Landed, Once, OnceOf}
+use Rattle.ec_law_turns.specs.Once.{IsIn, Landed, Once, OnceOf, is_plain_pre, is_sink_pre}
 use Rattle.ec_law_turns.specs.Orderly.{InOrder}
 use Rattle.ec_law_turns.proofs.Allowed.{free, locked}
 use Rattle.ec_law_turns.proofs.Basics.{differ, equal, has_tried, put_here, put_there, some_is, some_none, wait_of}
@@ -33,7 +34,7 @@ use Rattle.ec_law_turns.proofs.Sends.{adds, of_after, said_after}
 use Rattle.ec_law_turns.proofs.SentKnown.{BodyKept}
 use Rattle.ec_law_turns.proofs.SentSound.{own_sender}
 use Rattle.ec_law_turns.proofs.Steps.{EntryKept, heard_same, made_same, torn_same}
-use Rattle.ec_law_turns.proofs.Tracks.{Adds}
+use Rattle.ec_law_turns.proofs.Tracks.{Adds, request_is}
 use Rattle.ec_law_turns.proofs.Turned.{turn_kept}
 
 -- ## Tests
@@ -161,7 +162,7 @@ module _ (g : ℕ) (said : ℕ → Option Message) (flying : ℕ → Bool) (of :
     preops = o.preops;
     posts = o.posts;
     seen = λ t b le e. landed_later g said said flying flying' of of is_query b t (λ i x h. (h, refl)) (λ i x h f. lands i f) (o.seen t b le (sym (ap (λ (f : ℕ → ℕ → Option Head). is_some (f t b)) same.seen) ∙ e));
-    pre = λ t b le e. landed_later g said said flying flying' of of is_pre b t (λ i x h. (h, refl)) (λ i x h f. lands i f) (o.pre t b le (sym (ap (λ (f : ℕ → ℕ → Bool). f t b) same.pre) ∙ e));
+    pre = λ t b le e. landed_later g said said flying flying' of of is_plain_pre b t (λ i x h. (h, refl)) (λ i x h f. lands i f) (o.pre t b le (sym (ap (λ (f : ℕ → ℕ → Bool). f t b) same.pre) ∙ e));
     post = λ t b le e. landed_later g said said flying flying' of of is_post b t (λ i x h. (h, refl)) (λ i x h f. lands i f) (o.post t b le (sym (ap (λ (f : ℕ → ℕ → Bool). f t b) same.post) ∙ e));
   }))
 
@@ -201,7 +202,7 @@ module _ (geometry : Geometry) (g : ℕ) (m : Net) (v : View) (b : Books) (k : K
         preops = once_later geometry g m v b msg next_no may k kept is_pre (preops_once g) o.preops;
         posts = once_later geometry g m v b msg next_no may k kept is_post (posts_once g) o.posts;
         seen = λ t c le e. landed_later g m.said (said_after m msg) m.flying (put m.flying msg.no true) v.of (of_after g v msg) is_query c t more.still (λ i x h f. put_there m.flying msg.no true i (more.before i x h) ∙ f) (o.seen t c le (sym (ap (λ (f : ℕ → ℕ → Option Head). is_some (f t c)) same.seen) ∙ e));
-        pre = λ t c le e. landed_later g m.said (said_after m msg) m.flying (put m.flying msg.no true) v.of (of_after g v msg) is_pre c t more.still (λ i x h f. put_there m.flying msg.no true i (more.before i x h) ∙ f) (o.pre t c le (sym (ap (λ (f : ℕ → ℕ → Bool). f t c) same.pre) ∙ e));
+        pre = λ t c le e. landed_later g m.said (said_after m msg) m.flying (put m.flying msg.no true) v.of (of_after g v msg) is_plain_pre c t more.still (λ i x h f. put_there m.flying msg.no true i (more.before i x h) ∙ f) (o.pre t c le (sym (ap (λ (f : ℕ → ℕ → Bool). f t c) same.pre) ∙ e));
         post = λ t c le e. landed_later g m.said (said_after m msg) m.flying (put m.flying msg.no true) v.of (of_after g v msg) is_post c t more.still (λ i x h f. put_there m.flying msg.no true i (more.before i x h) ∙ f) (o.post t c le (sym (ap (λ (f : ℕ → ℕ → Bool). f t c) same.post) ∙ e));
       }
 
@@ -211,7 +212,7 @@ module _ (geometry : Geometry) (g : ℕ) (m : Net) (v : View) (b : Books) (k : K
     preops = o.preops;
     posts = o.posts;
     seen = λ t c le e. ⊎_elim (λ h. old is_query c t (o.seen t c le h)) (λ h. new is_query c t h.0 h.1 h.2 h.3) (grown.seen t c e);
-    pre = λ t c le e. ⊎_elim (λ h. old is_pre c t (o.pre t c le h)) (λ h. new is_pre c t h.0 h.1 h.2 h.3) (grown.pre t c e);
+    pre = λ t c le e. ⊎_elim (λ h. old is_plain_pre c t (o.pre t c le h)) (λ h. new is_plain_pre c t h.0 h.1 h.2 h.3) (grown.pre t c e);
     post = λ t c le e. ⊎_elim (λ h. old is_post c t (o.post t c le h)) (λ h. new is_post c t h.0 h.1 h.2 h.3) (grown.post t c e);
   }
     where
@@ -251,3 +252,36 @@ pub not_done : (g : ℕ) (said : ℕ → Option Message) (flying : ℕ → Bool)
 not_done g said flying of test i b x q once le is body brick on passes flies h =
     let same = once i h.number b (of i) le (record { message = x; request = q; is = is; brick = brick; body = body; on = on; passes = passes; turn = refl }) h.asked in
     let z = sym flies ∙ (ap flying same ∙ h.landed) in cc
+
+-- ## A PreOp on a marked record is none that counts
+
+plain_pre : (q : Request) → is_plain_pre q ≡ true → is_pre q ≡ true
+plain_pre (PreOp x n at dirty) h = refl
+plain_pre q h = absurd (cc)
+
+sink_pre : (q : Request) → is_sink_pre q ≡ true → is_pre q ≡ true
+sink_pre (PreOp x n at dirty) h = refl
+sink_pre q h = absurd (cc)
+
+not_both : (q : Request) → is_sink_pre q ≡ true → is_plain_pre q ≡ true → ⊥
+not_both (PreOp x n v dirty) h i = at (is_marked v) h i
+  where
+    at : (t : Bool) → t ≡ true → not t ≡ true → ⊥
+    at true h i = absurd (cc)
+    at false h i = absurd (cc)
+not_both q h i = absurd (cc)
+
+module _ (g : ℕ) (said : ℕ → Option Message) (flying : ℕ → Bool) (of : ℕ → ℕ) (b t : ℕ) where
+  weaker : (test test' : Request → Bool) → ((q : Request) → test q ≡ true → test' q ≡ true) → (i : ℕ) → IsIn g said of test i b t → IsIn g said of test' i b t
+  weaker test test' f i h = record { message = h.message; request = h.request; is = h.is; brick = h.brick; body = h.body; on = h.on; passes = f h.request h.passes; turn = h.turn }
+
+  pub landed_pre : Landed g said flying of is_plain_pre b t → Landed g said flying of is_pre b t
+  landed_pre h = record { number = h.number; asked = weaker is_plain_pre is_pre plain_pre h.number h.asked; landed = h.landed }
+
+  -- a turn sends a brick one PreOp, so none is done on the unmarked record where it went to a marked one
+  pub sunk : OnceOf g said of is_pre → 2 ^ 61 ≤ t → (i : ℕ) → IsIn g said of is_sink_pre i b t → Landed g said flying of is_plain_pre b t → ⊥
+  sunk once le i sink h =
+      let same = once i h.number b t le (weaker is_sink_pre is_pre sink_pre i sink) (weaker is_plain_pre is_pre plain_pre h.number h.asked) in
+      let message = some_is sink.message h.asked.message (sym sink.is ∙ (ap said same ∙ h.asked.is)) in
+      let request = request_is sink.request h.asked.request (sym sink.body ∙ (ap (λ (y : Message). y.body) message ∙ h.asked.body)) in
+      not_both sink.request sink.passes (ap is_plain_pre request ∙ h.asked.passes)

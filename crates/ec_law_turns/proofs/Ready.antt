@@ -1,5 +1,5 @@
 -- What a log needs of the calls, from the conduct and from what bricks told them.
-use Rattle.std.proofs.Common.{◌≡◌, ℕ, ◌^◌, ◌≤◌, Bool, true, false, cond, ◌==◌, Option, Some, List, [], refl, sym, ◌∙◌, ap, subst, arith, ◌&&◌, ◌||◌, ◌<◌, ◌∷◌, None}
+use Rattle.std.proofs.Common.{◌≡◌, ℕ, ◌^◌, ◌≤◌, Bool, true, false, cond, ◌==◌, Option, Some, List, [], refl, sym, ◌∙◌, ap, subst, arith, ◌&&◌, ◌<◌, ◌∷◌, inl}
 use Rattle.ec_attr.specs.declared.geometry.Geometry.{Geometry}
 use Rattle.ec_attr.specs.declared.kind.Domain.{Domain}
 use Rattle.ec_attr.specs.declared.kind.Domain.TheVariants.{Inode, Heal}
@@ -29,35 +29,28 @@ use Rattle.ec_law_turns.specs.Known.{Known}
 use Rattle.ec_attr.specs.Marks.{is_marked}
 use Rattle.ec_conduct.specs.Account.{gfid_of}
 use Rattle.ec_conduct.specs.Done.{is_post, is_pre, is_query}
-use Rattle.ec_law_ballots.specs.Words.{saw}
-use Rattle.ec_law_turns.specs.Once.{Once}
+use Rattle.std.specs.Prelude.{is_some}
+use Rattle.ec_conduct.specs.Given.{quorum}
+use Rattle.ec_law_base.specs.State.{Ballot, Head as Seen}
+use Rattle.ec_law_ballots.specs.Words.{at_base, is_marked_head, saw}
+use Rattle.ec_law_turns.specs.Once.{IsIn, Once, is_sink_pre}
+use Rattle.ec_law_turns.specs.Shown.{Shown}
 use Rattle.ec_law_turns.specs.Replied.{Replied}
 use Rattle.ec_law_turns.proofs.Letting.{IsOwnAsk, owner}
 use Rattle.ec_history.specs.Run.{Owed}
 use Rattle.ec_attr.specs.declared.kind.LockKind.TheVariants.{Exclusive}
 use Rattle.ec_law_net.specs.Turns.{exclusive}
 use Rattle.ec_law_turns.proofs.Basics.{some_is}
-use Rattle.ec_law_turns.proofs.Onces.{not_done}
-use Rattle.std.specs.Option.{option_map}
-use Rattle.std.specs.Prelude.{unwrap_or}
+use Rattle.ec_law_turns.proofs.Onces.{landed_pre, not_done, sunk}
 use Rattle.ec_attr.specs.Marks.{stripped}
-use Rattle.ec_attr.specs.declared.head.Head.{Head}
-use Rattle.ec_wire.specs.declared.reply.Reply.{Reply}
-use Rattle.ec_conduct.specs.Account.{Account, Exchange}
-use Rattle.ec_conduct.specs.Done.{reply_to, tried}
-use Rattle.ec_conduct.specs.Group.{Heads, first_head}
-use Rattle.ec_conduct.specs.Opened.{account}
-use Rattle.ec_conduct.specs.Standing.{group_of, head_of, heads_at}
 use Rattle.ec_history.specs.IsRun.{MaySay}
 use Rattle.ec_law_ballots.specs.Act.Act.{Choose}
-use Rattle.ec_law_net.specs.Turns.{is_lock_on, is_over}
 use Rattle.ec_law_net.proofs.GrantEntries.{real_turn}
-use Rattle.ec_law_turns.specs.Follows.{Follows}
+use Rattle.ec_law_turns.proofs.Sending.{number_is, raises_it, stands_on}
 use Rattle.ec_law_turns.proofs.SentKnown.{BodyKept}
 use Rattle.ec_law_turns.proofs.Steps.{EntryKept}
-use Rattle.ec_law_turns.proofs.Turned.{turn_kept}
 use Rattle.ec_law_turns.specs.Sound.{AreSound, IsSound}
-use Rattle.ec_law_turns.specs.Told.{BodyTold, EntryTold, MessageTold, PostTold, PreTold, SentTold, Told}
+use Rattle.ec_law_turns.specs.Told.{PostTold, PreTold, Saw, Told}
 use Rattle.ec_law_turns.proofs.Basics.{equal, put_here, unequal}
 use Rattle.ec_law_turns.proofs.Sends.{of_after, moment_after, said_after}
 
@@ -89,19 +82,27 @@ module _ (n k g : ℕ) (m : Net) (v : View) (l : LocksStand n g m v) (o : Once g
 
   unraised : (q : Request) → msg.body ≡ ToBrick q → is_pre q ≡ true → gfid_of q ≡ Some g → 2 ^ 61 ≤ v.of msg.no → (t : Bool) → v.core.pre (v.of msg.no) msg.brick ≡ t → t ≡ false
   unraised q body passes on le false e = refl
-  unraised q body passes on le true e = absurd (not_done g m.said m.flying v.of is_pre msg.no msg.brick msg q o.preops le said body refl on passes flies (o.pre (v.of msg.no) msg.brick le e))
+  unraised q body passes on le true e = absurd (not_done g m.said m.flying v.of is_pre msg.no msg.brick msg q o.preops le said body refl on passes flies (landed_pre g m.said m.flying v.of msg.brick (v.of msg.no) (o.pre (v.of msg.no) msg.brick le e)))
 
   unposted : (q : Request) → msg.body ≡ ToBrick q → is_post q ≡ true → gfid_of q ≡ Some g → 2 ^ 61 ≤ v.of msg.no → (t : Bool) → v.core.post (v.of msg.no) msg.brick ≡ t → t ≡ false
   unposted q body passes on le false e = refl
   unposted q body passes on le true e = absurd (not_done g m.said m.flying v.of is_post msg.no msg.brick msg q o.posts le said body refl on passes flies (o.post (v.of msg.no) msg.brick le e))
 
-  pre_ready : (t : Bool) → v.core.pre (v.of msg.no) msg.brick ≡ false → PreTold v.core (v.of msg.no) msg.brick t → PreReady v.core (v.of msg.no) msg.brick t
-  pre_ready false e h = (h, e)
-  pre_ready true e h = (h, e)
+  saw_it : (P : Option Seen → Type 0) → Saw v.core (v.of msg.no) msg.brick P → saw v.core (v.of msg.no) msg.brick ≡ true
+  saw_it P h = ap (λ (y : Option Seen). is_some y) h.seen
 
-  post_ready : (t : Bool) → v.core.post (v.of msg.no) msg.brick ≡ false → PostTold v.core (v.of msg.no) msg.brick t → PostReady v.core (v.of msg.no) msg.brick t
-  post_ready false e h = (h, e)
-  post_ready true e h = h
+  pre_ready : (t : Bool) → v.core.pre (v.of msg.no) msg.brick ≡ false → PreTold v.core (v.of msg.no) msg.brick t → PreReady v.core (v.of msg.no) msg.brick t
+  pre_ready false e h = (inl (ap (at_base (v.core.ballot (v.of msg.no))) h.seen ∙ h.so), e)
+  pre_ready true e h = (saw_it (λ y. is_marked_head y ≡ true) h, e)
+
+  -- no PreOp of the turn was done there on an unmarked record
+  sunken : 2 ^ 61 ≤ v.of msg.no → (i : ℕ) → IsIn g m.said v.of is_sink_pre i msg.brick (v.of msg.no) → (t : Bool) → v.core.pre (v.of msg.no) msg.brick ≡ t → t ≡ false
+  sunken le i sink false e = refl
+  sunken le i sink true e = absurd (sunk g m.said m.flying v.of msg.brick (v.of msg.no) o.preops le i sink (o.pre (v.of msg.no) msg.brick le e))
+
+  post_ready : 2 ^ 61 ≤ v.of msg.no → (t : Bool) → v.core.post (v.of msg.no) msg.brick ≡ false → PostTold g m.said v.of v.core (v.of msg.no) msg.brick t → PostReady v.core (v.of msg.no) msg.brick t
+  post_ready le false e h = (h, e)
+  post_ready le true e h = (saw_it (λ y. is_marked_head y ≡ true) h.0, sunken le h.1.0 h.1.1 (v.core.pre (v.of msg.no) msg.brick) refl)
 
   -- the brick that executes a Query under its call's grant gave it before the turn's moment
   heard_early : (owed : List Owed) (books : Books) → Replied g m.said v.of owed v.core books → (x : Gfid) (grant : ℕ) → msg.body ≡ ToBrick (Query x grant) → x.0 ≡ g → v.of grant ≡ v.of msg.no → exclusive g Inode (m.brick msg.brick).asks ≡ Some grant → v.core.early (v.of msg.no) msg.brick ≡ true
@@ -120,10 +121,10 @@ module _ (n k g : ℕ) (m : Net) (v : View) (l : LocksStand n g m v) (o : Once g
       own_body : (a : Asking) → IsOwnAsk g a → ToBrick (Ask a.gfid a.domain a.kind) ≡ ToBrick (Ask a.gfid Inode Exclusive)
       own_body a h = ap (λ (d : Domain). ToBrick (Ask a.gfid d a.kind)) h.domain ∙ ap (λ (y : LockKind). ToBrick (Ask a.gfid Inode y)) h.kind
 
-  ready : (owed : List Owed) (books : Books) → Replied g m.said v.of owed v.core books → (q : Request) → msg.body ≡ ToBrick q → IsSound g m.said v.of v.core.moment msg.call msg.brick msg.no q → Told n k g m v (v.of msg.no) msg.brick q → Ready n k g m v (v.of msg.no) msg.brick q
+  ready : (owed : List Owed) (books : Books) → Replied g m.said v.of owed v.core books → (q : Request) → msg.body ≡ ToBrick q → IsSound g m.said v.of v.core.moment msg.call msg.brick msg.no q → Told n k g m.said v.of v.core (v.of msg.no) msg.brick q → Ready n k g m v (v.of msg.no) msg.brick q
   ready owed books r (Query x grant) body s t = λ on h z. let o = s on in record { own = o.0.turn; early = heard_early owed books r x grant body on o.0.turn h; moment = o.1; once = unseen x grant body on o.0.begun (saw v.core (v.of msg.no) msg.brick) refl; first = z; real = real o.0.begun }
-  ready owed books r (PreOp x grant at number) body s t = λ on. let o = s on in let u = t on in record { own = o.0.turn; ballot = record { real = real o.0.begun; number = let z = u.raised in let y = o.1 in omega (arith, z, y) }; base = u.base; raised = u.raised; ready = pre_ready (is_marked at) (unraised (PreOp x grant at number) body refl (ap (λ (y : ℕ). Some y) on) o.0.begun (v.core.pre (v.of msg.no) msg.brick) refl) u.ready }
-  ready owed books r (PostOp x grant at version size attr) body s t = λ on. let o = s on in let u = t on in record { own = o.turn; ballot = record { real = real o.begun; number = u.ballot }; base = u.base; target = u.target; mark = u.mark; quorum = u.quorum; ready = post_ready (is_marked at) (unposted (PostOp x grant at version size attr) body refl (ap (λ (y : ℕ). Some y) on) o.begun (v.core.post (v.of msg.no) msg.brick) refl) u.ready }
+  ready owed books r (PreOp x grant at number) body s t = λ on. let o = s on in let u = t on in record { own = o.0.turn; ballot = record { real = real o.0.begun; number = let z = ap (λ (p : Ballot). p.number) u.ballot in let y = u.above in omega (arith, z, y) }; base = ap (λ (p : Ballot). p.base) u.ballot; raised = ap (λ (p : Ballot). p.number) u.ballot; ready = pre_ready (is_marked at) (unraised (PreOp x grant at number) body refl (ap (λ (y : ℕ). Some y) on) o.0.begun (v.core.pre (v.of msg.no) msg.brick) refl) u.ready }
+  ready owed books r (PostOp x grant at version size attr) body s t = λ on. let o = s on in let u = t on in record { own = o.turn; ballot = record { real = real o.begun; number = u.ballot }; base = u.base; target = u.target; mark = u.mark; quorum = u.quorum; ready = post_ready o.begun (is_marked at) (unposted (PostOp x grant at version size attr) body refl (ap (λ (y : ℕ). Some y) on) o.begun (v.core.post (v.of msg.no) msg.brick) refl) u.ready }
   ready owed books r (Clear x grant at) body s t = λ on. let o = s on in let u = t on in record { own = o.0.turn; target = u.target; unmarked = o.1; here = u.all msg.brick below; all = u.all; real = real o.0.begun }
   ready owed books r (Make x grant child) body s t = λ on. absurd s
   ready owed books r (Made x grant child) body s t = λ on. absurd s
@@ -136,85 +137,53 @@ module _ (n k g : ℕ) (m : Net) (v : View) (l : LocksStand n g m v) (o : Once g
 nothing : (n k : ℕ) (s : State) → Runs n k [] s
 nothing n k s = refl
 
--- a group has a head
-some_head : (heads : Heads) (bs : List ℕ) (q : Head) → first_head heads bs ≡ Some q → (x : ℕ) × (heads x ≡ Some q)
-some_head heads [] q h = absurd (cc)
-some_head heads (x ∷ bs) q h = (x, h)
-
-was_some : (f : Head → Head) (o : Option Head) (q : Head) → option_map f o ≡ Some q → (r : Head) × (o ≡ Some r)
-was_some f None q h = absurd (cc)
-was_some f (Some r) q h = (r, refl)
-
-replied : (o : Option Reply) (q : Head) → head_of o ≡ Some q → o ≡ None → ⊥
-replied None q h e = cc
-replied (Some y) q h e = cc
-
-was_tried : (p : Request → Bool) (es : List Exchange) → (reply_to p es ≡ None → ⊥) → tried p es ≡ true
-was_tried p [] h = absurd (h refl)
-was_tried p (e ∷ es) h = at (p e.request) h (λ k. was_tried p es k)
-  where
-    at : (t : Bool) → (cond t e.reply (reply_to p es) ≡ None → ⊥) → ((reply_to p es ≡ None → ⊥) → tried p es ≡ true) → (t || tried p es) ≡ true
-    at true h f = refl
-    at false h f = f h
-
--- where a group was heard the Queries had been sent
-queried_by : (g : ℕ) (said : ℕ → Option Message) (turn : ℕ → Option ℕ) (of : ℕ → ℕ) (moment : ℕ → Bool) (a : ℕ) (c : Account) (q : Head) → Follows g said turn of moment a c → group_of c g ≡ Some q → (t : ℕ) × (turn a ≡ Some t) × (moment t ≡ true)
-queried_by g said turn of moment a c q f h =
-    let o = was_some _ _ q h in
-    let x = some_head (heads_at c g) _ o.0 o.1 in
-    let l = f.looked x.0 (was_tried is_query ((c.on g).place x.0).window (λ e. replied (reply_to is_query ((c.on g).place x.0).window) o.0 x.1 e)) in
-    let u = f.over l.0 l.1 in
-    (u.1, u.2, u.3)
-
 -- What is sent is in order; a Mark or Unmark is on another gfid.
-module _ (geometry : Geometry) (k g : ℕ) (m : Net) (v : View) (b : Books) (msg : Message) (next_no : msg.no ≡ m.next) (may : MaySay geometry.n m msg msg.body) (kept : BodyKept m b msg msg.body) (link : Linked geometry.n g m v) (l : LocksStand geometry.n g m v) (known : Known geometry g m v b) (sound : AreSound g (said_after m msg) (of_after g v msg) (moment_after g v msg)) where
+module _ (geometry : Geometry) (g : ℕ) (m : Net) (v : View) (b : Books) (msg : Message) (next_no : msg.no ≡ m.next) (may : MaySay geometry.n m msg msg.body) (kept : BodyKept m b msg msg.body) (link : Linked geometry.n g m v) (l : LocksStand geometry.n g m v) (known : Known geometry g m v b) (shown : Shown geometry g m.said m.next v.turn v.of m.owed v.core b) (sound : AreSound g (said_after m msg) (of_after g v msg) (moment_after g v msg)) where
   mine : (q : Request) → msg.body ≡ ToBrick q → IsSound g (said_after m msg) (of_after g v msg) (moment_after g v msg) msg.call msg.brick msg.no q
   mine q e = sound msg.no msg q (put_here m.said msg.no (Some msg) msg.no refl) e
 
-  sent_known : (z : Body) → msg.body ≡ z → SentTold geometry.n k g v.core (turn_of g v msg) z → SentKnown geometry.n k g v.core (turn_of g v msg) z
-  sent_known (ToClient re reply) e t = nothing geometry.n k v.core
-  sent_known (ToBrick (Query x i)) e t = tt
-  sent_known (ToBrick (PreOp x i at number)) e t = either (x.0 == g) ((v.core.ballot (turn_of g v msg)).number == 0) refl refl
+  sent_known : (z : Body) → msg.body ≡ z → SentKnown geometry.n (quorum geometry) g v.core (turn_of g v msg) z
+  sent_known (ToClient re reply) e = nothing geometry.n (quorum geometry) v.core
+  sent_known (ToBrick (Query x i)) e = tt
+  sent_known (ToBrick (PreOp x i at number)) e = either (x.0 == g) ((v.core.ballot (turn_of g v msg)).number == 0) refl refl
     where
-      takes : x.0 ≡ g → (v.core.ballot (turn_of g v msg)).number ≡ 0 → Runs geometry.n k (Choose (turn_of g v msg) (record { base = stripped at; number = number }) ∷ []) v.core
+      takes : x.0 ≡ g → (v.core.ballot (turn_of g v msg)).number ≡ 0 → Runs geometry.n (quorum geometry) (Choose (turn_of g v msg) (record { base = stripped at; number = number }) ∷ []) v.core
       takes on none =
           let asker = subst (λ (y : Body). MaySay geometry.n m msg y) e may in
           let made = known.numbers.made msg.call asker.asker asker.made in
-          let c = account made.1 (b.own msg.call) in
-          let allowed = (subst (BodyKept m b msg) e kept made.1 made.2 refl).0 in
-          let q = queried_by g m.said v.turn v.of v.core.moment msg.call c allowed.1.head (known.calls msg.call made.1 made.2) (subst (λ (y : ℕ). group_of c y ≡ Some allowed.1.head) on allowed.1.group) in
-          let now = turn_kept g v msg msg.call (ap (λ (y : Bool). y && is_over v.core (v.turn msg.call)) (ap (is_lock_on g) e)) ∙ q.1 in
-          let number_is = ap (λ (y : Option ℕ). unwrap_or y 0) now in
-          ((none, (mine (PreOp x i at number) e on).1, t on none, ap v.core.moment number_is ∙ q.2, real_turn geometry.n g m v msg link l next_no, link.kept (turn_of g v msg)), refl)
+          let r = raises_it geometry g m v b msg next_no may kept known shown (PreOp x i at number) e made.1 made.2 refl x i at number refl on in
+          let enough = stands_on geometry g m v b msg next_no may kept known shown (PreOp x i at number) e made.1 made.2 refl x i at number refl on in
+          let turn = number_is geometry g m v b msg next_no may kept known shown (PreOp x i at number) e made.1 made.2 refl refl r.t r.has in
+          ((none, (mine (PreOp x i at number) e on).1, enough, ap v.core.moment turn ∙ r.moment, real_turn geometry.n g m v msg link l next_no, link.kept (turn_of g v msg)), refl)
 
-      either : (u w : Bool) → (x.0 == g) ≡ u → ((v.core.ballot (turn_of g v msg)).number == 0) ≡ w → Runs geometry.n k (cond u (cond w (Choose (turn_of g v msg) (record { base = stripped at; number = number }) ∷ []) []) []) v.core
+      either : (u w : Bool) → (x.0 == g) ≡ u → ((v.core.ballot (turn_of g v msg)).number == 0) ≡ w → Runs geometry.n (quorum geometry) (cond u (cond w (Choose (turn_of g v msg) (record { base = stripped at; number = number }) ∷ []) []) []) v.core
       either false w h z = refl
       either true false h z = refl
       either true true h z = takes (equal x.0 g h) (equal (v.core.ballot (turn_of g v msg)).number 0 z)
-  sent_known (ToBrick (Mark x i heal head)) e t = none (x.0 == g) (unequal x.0 g (mine (Mark x i heal head) e)) _
+  sent_known (ToBrick (Mark x i heal head)) e = none (x.0 == g) (unequal x.0 g (mine (Mark x i heal head) e)) _
     where
-      none : (u : Bool) → u ≡ false → (xs : List _) → Runs geometry.n k (cond u xs []) v.core
+      none : (u : Bool) → u ≡ false → (xs : List _) → Runs geometry.n (quorum geometry) (cond u xs []) v.core
       none true h xs = absurd (cc)
       none false h xs = refl
-  sent_known (ToBrick (Unmark x i at dirty)) e t = none (x.0 == g) (unequal x.0 g (mine (Unmark x i at dirty) e)) _
+  sent_known (ToBrick (Unmark x i at dirty)) e = none (x.0 == g) (unequal x.0 g (mine (Unmark x i at dirty) e)) _
     where
-      none : (u : Bool) → u ≡ false → (xs : List _) → Runs geometry.n k (cond u xs []) v.core
+      none : (u : Bool) → u ≡ false → (xs : List _) → Runs geometry.n (quorum geometry) (cond u xs []) v.core
       none true h xs = absurd (cc)
       none false h xs = refl
-  sent_known (ToBrick q) e t = nothing geometry.n k v.core
+  sent_known (ToBrick q) e = nothing geometry.n (quorum geometry) v.core
 
-pub known_of : (geometry : Geometry) (k g : ℕ) (m : Net) (v : View) (b b' : Books) (e : Entry) → MayEnter geometry.n m e → EntryKept m b e → Linked geometry.n g m v → LocksStand geometry.n g m v → LocksStand geometry.n g (net_after m e) (seen_after g m v e) → Once g m.said m.flying v.of v.core → Replied g m.said v.of m.owed v.core b → Known geometry g m v b → Known geometry g (net_after m e) (seen_after g m v e) b' → EntryTold geometry.n k g m v e → EntryKnown geometry.n k g m v e
-known_of geometry k g m v b b' (Sent msg) may kept link l l' did heard known known' told = sent_known geometry k g m v b msg may.0 may.1 kept link l known known'.sound msg.body refl told
-known_of geometry k g m v b b' (Executed i version failed) may kept link l l' did heard known known' told =
+pub known_of : (geometry : Geometry) (g : ℕ) (m : Net) (v : View) (b b' : Books) (e : Entry) → MayEnter geometry.n m e → EntryKept m b e → Linked geometry.n g m v → LocksStand geometry.n g m v → LocksStand geometry.n g (net_after m e) (seen_after g m v e) → Once g m.said m.flying v.of v.core → Replied g m.said v.of m.owed v.core b → Known geometry g m v b → Known geometry g (net_after m e) (seen_after g m v e) b' → Shown geometry g m.said m.next v.turn v.of m.owed v.core b → EntryKnown geometry.n (quorum geometry) g m v e
+known_of geometry g m v b b' (Sent msg) may kept link l l' did heard known known' shown = sent_known geometry g m v b msg may.0 may.1 kept link l known shown known'.sound msg.body refl
+known_of geometry g m v b b' (Executed i version failed) may kept link l l' did heard known known' shown =
     let msg = may.message in
     let q = may.request in
     let no = (known.messages.number i msg may.at.said).0 in
     let out = out_of m msg q version failed in
-    let told' = subst (λ (z : Body). BodyTold geometry.n k g m v msg z) may.at.body (subst (λ (o : Option Message). MessageTold geometry.n k g m v o) may.at.said told) in
+    let asked = shown.asked msg.no msg q (ap m.said no ∙ may.at.said) may.at.body in
     let sound = known.sound msg.no msg q (ap m.said no ∙ may.at.said) may.at.body in
-    subst (λ (o : Option Message). MessageKnown geometry.n k g m v o version failed) (sym may.at.said)
-    (subst (λ (z : Body). BodyKnown geometry.n k g m v msg z version failed) (sym may.at.body) (
-      ready geometry.n k g m v l did msg (ap m.flying no ∙ may.at.flying) (ap m.said no ∙ may.at.said) (link.to i msg q may.at.said may.at.body) m.owed b heard q may.at.body sound told',
+    subst (λ (o : Option Message). MessageKnown geometry.n (quorum geometry) g m v o version failed) (sym may.at.said)
+    (subst (λ (z : Body). BodyKnown geometry.n (quorum geometry) g m v msg z version failed) (sym may.at.body) (
+      ready geometry.n (quorum geometry) g m v l did msg (ap m.flying no ∙ may.at.flying) (ap m.said no ∙ may.at.said) (link.to i msg q may.at.said may.at.body) m.owed b heard q may.at.body sound asked,
       heals_ready g m v (executed_as m msg out) v.of (seen_after g m v (Executed i version failed)).core.moment msg.brick (m.brick msg.brick).asks out.brick.asks (by_net may) (are may),
     ))
   where
@@ -229,6 +198,6 @@ known_of geometry k g m v b b' (Executed i version failed) may kept link l l' di
         let out = out_of m may.message may.request version failed in
         let h = l'.asks may.message.brick (link.to i may.message may.request may.at.said may.at.body) in
         subst (λ (z : Brick). AreAsks (executed_as m may.message out) may.message.brick z.asks) (put_here m.brick may.message.brick out.brick may.message.brick refl) (subst (λ (t : Net). AreAsks t may.message.brick (t.brick may.message.brick).asks) (after_is may) h)
-known_of geometry k g m v b b' (Cut client x) may kept link l l' did heard known known' told =
+known_of geometry g m v b b' (Cut client x) may kept link l l' did heard known known' shown =
     heals_ready g m v (net_after m (Cut client x)) v.of (seen_after g m v (Cut client x)).core.moment x (m.brick x).asks (cut_off (m.brick x) client).brick.asks known'.sound (subst (λ (z : Brick). AreAsks (net_after m (Cut client x)) x z.asks) (put_here m.brick x (cut_off (m.brick x) client).brick x refl) (l'.asks x may.0))
-known_of geometry k g m v b b' e may kept link l l' did heard known known' told = tt
+known_of geometry g m v b b' e may kept link l l' did heard known known' shown = tt

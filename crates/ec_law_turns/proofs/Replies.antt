@@ -50,7 +50,7 @@ use Rattle.ec_law_turns.proofs.SentKnown.{BodyKept}
 use Rattle.ec_law_turns.proofs.Steps.{EntryKept, executed_same, heard_same, made_same, torn_same}
 use Rattle.ec_law_turns.proofs.Tracks.{Adds}
 
-heard_owed : (m : Net) (o : Option Message) → (heard m o).owed ≡ m.owed
+pub heard_owed : (m : Net) (o : Option Message) → (heard m o).owed ≡ m.owed
 heard_owed m None = refl
 heard_owed m (Some msg) = by_body msg.body
   where
@@ -58,7 +58,7 @@ heard_owed m (Some msg) = by_body msg.body
     by_body (ToBrick q) = refl
     by_body (ToClient re reply) = refl
 
-torn_owed : (m : Net) (o : Option Message) (bytes : ℕ) (version : Option ℕ) → (torn_off m o bytes version).owed ≡ m.owed
+pub torn_owed : (m : Net) (o : Option Message) (bytes : ℕ) (version : Option ℕ) → (torn_off m o bytes version).owed ≡ m.owed
 torn_owed m None bytes version = refl
 torn_owed m (Some msg) bytes version = by_body msg.body
   where

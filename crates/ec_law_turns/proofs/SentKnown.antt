@@ -75,7 +75,7 @@ module _ (geometry : Geometry) (g : ℕ) (m : Net) (v : View) (b : Books) (msg :
       at None e = inl (ap (λ (o : Option ℕ). unwrap_or o 0) e)
       at (Some t) e = inr (t, e, ap (λ (o : Option ℕ). unwrap_or o 0) e)
 
-  turn_below : turn_of g v msg < 2 ^ 61 + (m.next + 1)
+  pub turn_below : turn_of g v msg < 2 ^ 61 + (m.next + 1)
   turn_below = ⊎_elim (λ z. omega (arith, z)) (λ o. let h = (turns_after msg.call o.0 o.1).1 in let e = o.2 in omega (arith, h, e)) turn_is
 
   turn_mine : 2 ^ 61 ≤ turn_of g v msg → call_of (said_after m msg (turn_of g v msg - 2 ^ 61)) ≡ msg.call
@@ -101,7 +101,7 @@ module _ (geometry : Geometry) (g : ℕ) (m : Net) (v : View) (b : Books) (msg :
   fresh_sent t h = moment_other g v.core (turn_of g v msg) msg.body t (λ z. let l = turn_below in omega (arith, h, z, l)) ∙ k.fresh t (omega (arith, h))
 
   -- another call's turn is none of the message
-  others_turn : (a t : ℕ) → a ≢ msg.call → v.turn a ≡ Some t → t ≢ turn_of g v msg
+  pub others_turn : (a t : ℕ) → a ≢ msg.call → v.turn a ≡ Some t → t ≢ turn_of g v msg
   others_turn a t ne e h =
       let now = turn_other g v msg a ne ∙ e in
       let o = turns_after a t now in

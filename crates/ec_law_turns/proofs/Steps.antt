@@ -79,6 +79,18 @@ module _ (geometry : Geometry) (g : ℕ) (m : Net) (v : View) (b : Books) (k : K
           at true = own_more msg.call (Hears msg.brick re reply) (λ c f. hears g m.said v.turn v.of v.core.moment msg.call c f msg.brick re reply)
           at false = k.calls
 
+  -- a call that was not made yet has no turn
+  pub new_turn : (a : ℕ) → m.calls < a → v.turn a ≡ None
+  new_turn a lt = at (v.turn a) refl
+    where
+      below : (o : Option Message) → ((s : Message) → o ≡ Some s → s.call ≤ m.calls) → call_of o ≤ m.calls
+      below None le = omega arith
+      below (Some s) le = le s refl
+
+      at : (o : Option ℕ) → v.turn a ≡ o → v.turn a ≡ None
+      at None h = h
+      at (Some u) h = absurd (let o = (k.messages.turns a u h).2 in let le = below (m.said (u - 2 ^ 61)) (λ s is. k.numbers.said_below (u - 2 ^ 61) s is) in omega (arith, o, le, lt))
+
   new_call : (x : ℕ) (client : ℕ) (op : Op) (t : Story) → x ≡ m.calls + 1 → (a : ℕ) (given : Given) → put b.given x (Some (given_to geometry t b client op)) a ≡ Some given → Follows g m.said v.turn v.of v.core.moment a (account given (b.own a))
   new_call x client op t e a given h = ⊎_elim (λ z. fresh z.0 (some_is (given_to geometry t b client op) given z.1)) (λ z. k.calls a given z.1) (put_some b.given x (Some (given_to geometry t b client op)) a given h)
     where
@@ -88,16 +100,8 @@ module _ (geometry : Geometry) (g : ℕ) (m : Net) (v : View) (b : Books) (k : K
       unsaid : a ≡ x → (y i : ℕ) (s : Message) → m.said i ≡ Some s → s.call ≡ a → ⊥
       unsaid z y i s is call = let lt = above z in let le = k.numbers.said_below i s is in omega (arith, lt, le, call)
 
-      below : (o : Option Message) → ((s : Message) → o ≡ Some s → s.call ≤ m.calls) → call_of o ≤ m.calls
-      below None le = omega arith
-      below (Some s) le = le s refl
-
-      no_turn : a ≡ x → (o : Option ℕ) → v.turn a ≡ o → v.turn a ≡ None
-      no_turn z None h = h
-      no_turn z (Some u) h = absurd (let o = (k.messages.turns a u h).2 in let le = below (m.said (u - 2 ^ 61)) (λ s is. k.numbers.said_below (u - 2 ^ 61) s is) in let lt = above z in omega (arith, o, le, lt))
-
       fresh : a ≡ x → given_to geometry t b client op ≡ given → Follows g m.said v.turn v.of v.core.moment a (account given (b.own a))
-      fresh z same = subst (λ (es : List Own). Follows g m.said v.turn v.of v.core.moment a (account given es)) (sym (k.numbers.unsaid a (above z))) (opens geometry g m.said v.turn v.of v.core.moment a given (ap (λ (y : Given). y.kept) (sym same) ∙ ap (λ (o : Option Kept). taken_over o op) (k.numbers.kept client)) (no_turn z (v.turn a) refl) (unsaid z))
+      fresh z same = subst (λ (es : List Own). Follows g m.said v.turn v.of v.core.moment a (account given es)) (sym (k.numbers.unsaid a (above z))) (opens geometry g m.said v.turn v.of v.core.moment a given (ap (λ (y : Given). y.kept) (sym same) ∙ ap (λ (o : Option Kept). taken_over o op) (k.numbers.kept client)) (new_turn a (above z)) (unsaid z))
 
 pub made_same : (g : ℕ) (v : View) (a : ℕ) (op : Op) → ((made_by g v a op).turn ≡ v.turn) × ((made_by g v a op).of ≡ v.of)
 made_same g v a (Create parent name) = (refl, refl)
@@ -140,15 +144,15 @@ known_entry geometry g left m v t b e none plain may kept k = by_entry e plain m
     by_entry : (e : Entry) → IsPlainEntry e → MayEnter geometry.n m e → EntryKept m b e → Counts e → Next e
     by_entry (Called a client op) plain may kept n = let o = made_same g v a op in stays geometry g m v b k (after m (Called a client op)) (seen_after g m v (Called a client op)) (booked geometry left m t b (Called a client op)) refl refl o.0 o.1 (λ t. refl) n (new_call geometry g m v b k a client op t may.0)
     by_entry (Sent msg) plain may kept n = record { numbers = n; messages = messages_sent geometry g m v b msg may.0 may.1 k; fresh = fresh_sent geometry g m v b msg may.0 may.1 k; sound = sound_sent geometry g m v b msg may.0 may.1 k kept; calls = calls_sent geometry g m v b msg may.0 may.1 k kept }
-    by_entry (Executed i version failed) plain may kept n = let o = executed_same m (m.said i) version failed in stays geometry g m v b k (after m (Executed i version failed)) (seen_after g m v (Executed i version failed)) b o.0 o.1 refl refl (λ t. executed g m v (m.said i) version failed v.core t) n k.calls
+    by_entry (Executed i version failed) plain may kept n = let o = executed_same m (m.said i) version failed in stays geometry g m v b k (after m (Executed i version failed)) (seen_after g m v (Executed i version failed)) b o.0 o.1 refl refl (λ t. (executed g m v (m.said i) version failed v.core t).0) n k.calls
     by_entry (Heard i) plain may kept n = let o = heard_same m (m.said i) in stays geometry g m v b k (after m (Heard i)) (seen_after g m v (Heard i)) (booked geometry left m t b (Heard i)) o.0 o.1 refl refl (λ t. refl) n (heard_calls geometry g m v b k (m.said i))
     by_entry (Lost i) plain may kept n = stays geometry g m v b k (after m (Lost i)) (seen_after g m v (Lost i)) b refl refl refl refl (λ t. refl) n k.calls
     by_entry (GivenUp client brick i) plain may kept n = stays geometry g m v b k (after m (GivenUp client brick i)) (seen_after g m v (GivenUp client brick i)) (booked geometry left m t b (GivenUp client brick i)) refl refl refl refl (λ t. refl) n (own_more geometry g m v b k (call_of (m.said i)) (GivesUp brick i) (λ c f. gives_up g m.said v.turn v.of v.core.moment (call_of (m.said i)) c f brick i))
     by_entry (Stopped x) plain may kept n = stays geometry g m v b k (after m (Stopped x)) (seen_after g m v (Stopped x)) b refl refl refl refl (λ t. refl) n k.calls
     by_entry (Returned x) plain may kept n = stays geometry g m v b k (after m (Returned x)) (seen_after g m v (Returned x)) b refl refl refl refl (λ t. refl) n k.calls
-    by_entry (Cut client x) plain may kept n = stays geometry g m v b k (after m (Cut client x)) (seen_after g m v (Cut client x)) b refl refl refl refl (λ t. locks g m v x (m.brick x).asks (cut_off (m.brick x) client).brick.asks v.core t) n k.calls
+    by_entry (Cut client x) plain may kept n = stays geometry g m v b k (after m (Cut client x)) (seen_after g m v (Cut client x)) b refl refl refl refl (λ t. (locks g m v x (m.brick x).asks (cut_off (m.brick x) client).brick.asks v.core t).0) n k.calls
     by_entry (Died client) plain may kept n = stays geometry g m v b k (after m (Died client)) (seen_after g m v (Died client)) b refl refl refl refl (λ t. refl) n k.calls
     by_entry (Yielded client) plain may kept n = stays geometry g m v b k m v (booked geometry left m t b (Yielded client)) refl refl refl refl (λ t. refl) n k.calls
-    by_entry (Torn i bytes version) plain may kept n = let o = torn_same m (m.said i) bytes version in stays geometry g m v b k (after m (Torn i bytes version)) (seen_after g m v (Torn i bytes version)) b o.0 o.1 refl refl (λ t. torn (m.said i) v.core t) n k.calls
+    by_entry (Torn i bytes version) plain may kept n = let o = torn_same m (m.said i) bytes version in stays geometry g m v b k (after m (Torn i bytes version)) (seen_after g m v (Torn i bytes version)) b o.0 o.1 refl refl (λ t. (torn (m.said i) v.core t).0) n k.calls
     by_entry (Answered a answer) plain may kept n = stays geometry g m v b k (after m (Answered a answer)) (seen_after g m v (Answered a answer)) (booked geometry left m t b (Answered a answer)) refl refl refl refl (λ t. refl) n (own_more geometry g m v b k a (Answers answer) (λ c f. f))
-    by_entry (Replaced x removed all) plain may kept n = stays geometry g m v b k (after m (Replaced x removed all)) (seen_after g m v (Replaced x removed all)) b refl refl refl refl (λ t. replaced (is_some ((m.brick x).records g) && not (is_some (wiped removed all (m.brick x).records g))) x v.core t) n k.calls
+    by_entry (Replaced x removed all) plain may kept n = stays geometry g m v b k (after m (Replaced x removed all)) (seen_after g m v (Replaced x removed all)) b refl refl refl refl (λ t. (replaced (is_some ((m.brick x).records g) && not (is_some (wiped removed all (m.brick x).records g))) x v.core t).0) n k.calls

@@ -1,5 +1,5 @@
 -- What holds of every log in which each call keeps the conduct in order.
-use Rattle.std.specs.Prelude.{ℕ, ◌+◌, ◌<◌, List, [], ◌∷◌}
+use Rattle.std.specs.Prelude.{ℕ, List, [], ◌∷◌}
 use Rattle.ec_attr.specs.declared.config.Config.{Config}
 use Rattle.ec_brick.specs.State.{State as Brick}
 use Rattle.ec_history.specs.Flat.{Tree}
@@ -16,7 +16,6 @@ use Rattle.ec_law_net.specs.Grants.{AsksOnce}
 use Rattle.ec_law_net.specs.Start.{first_view}
 use Rattle.ec_law_net.specs.Turns.{View, seen_after, view}
 use Rattle.ec_law_turns.specs.Orderly.{ArePlain, IsOrderly}
-use Rattle.ec_law_turns.specs.Told.{AllTold}
 
 -- at the beginning and after each entry
 abbrev pub Always : (Net → View → Type 0) → ℕ → List Entry → Net → View → Type 0
@@ -38,21 +37,18 @@ pub record TurnLaws : Type 0 where
   -- a turn asks a brick for the content once
   pub asks_once : InEveryLog AsksOnce
 
--- A law of versions after every such log, for any geometry of which two quorums share a brick, in which the calls went on as
--- bricks had told them.
-abbrev pub AfterEveryToldLog : (ℕ → ℕ → State → Type 0) → Type 0
-AfterEveryToldLog law =
+-- A law of versions after every such log.
+abbrev pub AfterEveryOrderlyLog : (ℕ → ℕ → State → Type 0) → Type 0
+AfterEveryOrderlyLog law =
     (config : Config) (records : ℕ → Records) (bricks : ℕ → Brick) (tree : Tree) (next g : ℕ) (call : ℕ → ℕ) (es : List Entry)
-    → config.geometry.n < quorum config.geometry + quorum config.geometry
     → IsStart config records bricks tree next
     → IsRun config.geometry.n es (fresh bricks)
     → ArePlain es
     → IsOrderly config.geometry es (fresh bricks) (opening tree next)
-    → AllTold config.geometry.n (quorum config.geometry) g es (fresh bricks) (first_view config.geometry.n (tree g).version records g call next)
     → law config.geometry.n (quorum config.geometry) (view g es (fresh bricks) (first_view config.geometry.n (tree g).version records g call next)).core
 
-pub record ToldLaws : Type 0 where
+pub record OrderlyLaws : Type 0 where
   -- no two turns of which a brick did the PostOp have the same version
-  pub no_two_alike : AfterEveryToldLog NoTwoAlike
+  pub no_two_alike : AfterEveryOrderlyLog NoTwoAlike
   -- a commit's version is above that of every brick outside
-  pub above_others : AfterEveryToldLog AboveOthers
+  pub above_others : AfterEveryOrderlyLog AboveOthers

@@ -4,5 +4,6 @@ pub mod Laws
 pub mod Once
 pub mod Orderly
 pub mod Replied
+pub mod Shown
 pub mod Sound
 pub mod Told

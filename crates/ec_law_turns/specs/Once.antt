@@ -1,12 +1,23 @@
 -- Which requests go to a brick once in a turn, and that the machine did only what a message asked for.
-use Rattle.std.specs.Prelude.{◌≡◌, ℕ, ◌^◌, ◌≤◌, Bool, true, false, Option, Some}
+use Rattle.std.specs.Prelude.{◌≡◌, ℕ, ◌^◌, ◌≤◌, Bool, true, false, not, Option, Some}
 use Rattle.ec_wire.specs.declared.message.Body.TheVariants.{ToBrick}
 use Rattle.ec_wire.specs.declared.message.Message.{Message}
 use Rattle.ec_wire.specs.declared.request.Request.{Request}
+use Rattle.ec_wire.specs.declared.request.Request.TheVariants.{PreOp}
+use Rattle.ec_attr.specs.Marks.{is_marked}
 use Rattle.ec_conduct.specs.Account.{gfid_of}
 use Rattle.ec_conduct.specs.Done.{is_post, is_pre, is_query}
 use Rattle.ec_law_base.specs.State.{State}
 use Rattle.ec_law_ballots.specs.Words.{saw}
+
+-- a PreOp on an unmarked record, and on a marked one
+abbrev pub is_plain_pre : Request → Bool
+is_plain_pre (PreOp x n at dirty) = not (is_marked at)
+is_plain_pre q = false
+
+abbrev pub is_sink_pre : Request → Bool
+is_sink_pre (PreOp x n at dirty) = is_marked at
+is_sink_pre q = false
 
 -- message i is such a request to brick b, in turn t
 pub record IsIn (g : ℕ) (said : ℕ → Option Message) (of : ℕ → ℕ) (test : Request → Bool) (i b t : ℕ) : Type 0 where
@@ -33,5 +44,5 @@ pub record Once (g : ℕ) (said : ℕ → Option Message) (flying : ℕ → Bool
   pub preops : OnceOf g said of is_pre
   pub posts : OnceOf g said of is_post
   pub seen : (t b : ℕ) → 2 ^ 61 ≤ t → saw core t b ≡ true → Landed g said flying of is_query b t
-  pub pre : (t b : ℕ) → 2 ^ 61 ≤ t → core.pre t b ≡ true → Landed g said flying of is_pre b t
+  pub pre : (t b : ℕ) → 2 ^ 61 ≤ t → core.pre t b ≡ true → Landed g said flying of is_plain_pre b t
   pub post : (t b : ℕ) → 2 ^ 61 ≤ t → core.post t b ≡ true → Landed g said flying of is_post b t

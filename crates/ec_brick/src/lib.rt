@@ -21,8 +21,6 @@ mod start_fault;
 mod stop;
 mod table;
 mod tear;
-#[cfg(test)]
-mod tests;
 mod walk;
 mod work;
 

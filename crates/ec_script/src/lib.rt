@@ -28,4 +28,5 @@ mod words;
 pub use fault::LineFault;
 pub use generator::Generator;
 pub use line::read_line;
+pub use numbers::number;
 pub use printer::print;

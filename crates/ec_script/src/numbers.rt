@@ -70,7 +70,7 @@ fn numeral(word: &[u8], most: usize, low: u128, high: u128) -> Option<u128>
 }
 
 /// 1 to 20 digits, at most 2^64 - 1.
-pub(crate) fn number(word: &[u8]) -> Option<u64>
+pub fn number(word: &[u8]) -> Option<u64>
     ensures { result ≡ number word.now }
 {
     Some(numeral(word, 20, 0, u128::from(u64::MAX))? as u64)

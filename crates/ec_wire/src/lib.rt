@@ -40,4 +40,4 @@ pub use phase::{Phase, phase_of, phase_word};
 pub use reply::{GfidList, Reply};
 pub use request::{ChunkList, Request};
 pub use wire::Wire;
-pub use words::{push_numbers, push_word};
+pub use words::{kind_word, push_bricks, push_numbers, push_word};

@@ -96,7 +96,7 @@ fn numbers_of(alloc: Global, set: &BrickSet) -> Result<Vec<u64>, AllocError>
 }
 
 /// Adds a word of bricks joined by commas.
-pub(crate) fn push_bricks(text: &mut String, set: &BrickSet) -> Result<(), AllocError>
+pub fn push_bricks(text: &mut String, set: &BrickSet) -> Result<(), AllocError>
     ensures { OnOk result (string_bytes text.new ≡ string_bytes text.old ++ behind 32 (bricks_word set.now ∷ [])) }
 {
     let numbers = numbers_of(*text.allocator(), set)?;
@@ -165,7 +165,7 @@ pub(crate) fn push_name_or_dash(text: &mut String, name: &Option<Name>) -> Resul
 }
 
 /// The word of a kind.
-fn kind_word(kind: Kind) -> &'static str
+pub fn kind_word(kind: Kind) -> &'static str
     ensures { result.now ≡ kind_word kind }
 {
     match kind {

@@ -1,9 +1,9 @@
 // Writes that are cut short.
 ghost use Rattle.std.specs.Prelude.{◌≡◌, IfOk, length};
 
-use crate::brick::Brick;
-use crate::tests::{brick_of, head_of, put};
+use crate::records::{brick_of, head_of, put};
 use ec_attr::{Domain, Gfid, Kind, LockKind};
+use ec_brick::Brick;
 use ec_field::Chunk;
 use ec_store::{BrickStore, Fail as StoreFail, FailList, MemStore};
 use ec_wire::{ChunkList, Reply, Request};

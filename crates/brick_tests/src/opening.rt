@@ -1,7 +1,7 @@
 // Stores that are opened, and stores that are refused.
-use crate::start_fault::StartFault;
-use crate::tests::{brick_of, config_of, head_of, put, set};
+use crate::records::{brick_of, config_of, head_of, put, set};
 use ec_attr::{Attr, Config, Dirty, Geometry, Gfid, Head, Kind, Version};
+use ec_brick::StartFault;
 use ec_store::{Fail as StoreFail, FailList, MemStore};
 use std::process::Abort;
 use std::test::Fail;

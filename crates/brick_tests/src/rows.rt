@@ -3,10 +3,9 @@ ghost use Rattle.std.specs.Prelude.{◌≡◌, ◌≤◌, ◌^◌, IfOk, length,
 ghost use Rattle.ec_attr.specs.Marks.{is_marked};
 ghost use Rattle.ec_brick.specs.Fit.{IsFit};
 
-use crate::brick::Brick;
-use crate::effects::Effects;
-use crate::tests::{brick_of, head_of, put};
+use crate::records::{brick_of, head_of, put};
 use ec_attr::{Child, Domain, Gfid, Head, Kind, LockKind, Name, NameList, marked};
+use ec_brick::{Brick, Effects};
 use ec_field::Chunk;
 use ec_locks::Waiter;
 use ec_store::{BrickStore, Fail as StoreFail, FailList, MemStore};

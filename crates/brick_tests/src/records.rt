@@ -1,25 +1,20 @@
-// What is wanted is counted out by hand.
+// Bricks and records to test with.
 ghost use Rattle.std.specs.Prelude.{◌≤◌, ◌^◌};
 
-mod opening;
-mod roots;
-mod rows;
-mod tears;
-
-use crate::brick::Brick;
 use ec_attr::{Attr, Child, Config, Dirty, Geometry, Gfid, Head, Kind, Name, Version};
+use ec_brick::Brick;
 use ec_store::{BrickStore, MemStore};
 use std::process::Abort;
 
 /// The config of 2+1 bricks.
-fn config_of(rt: &impl Abort) -> Config {
+pub fn config_of(rt: &impl Abort) -> Config {
     Config {
         geometry: Geometry::new(3, 1).expect(rt, "a geometry"),
     }
 }
 
 /// The head of an empty record with this version and dirty number.
-fn head_of(rt: &impl Abort, kind: Kind, version: u64, dirty: u64) -> Head
+pub fn head_of(rt: &impl Abort, kind: Kind, version: u64, dirty: u64) -> Head
     ensures { result.size ≤ 2 ^ 40 }
 {
     Head {
@@ -39,14 +34,14 @@ fn head_of(rt: &impl Abort, kind: Kind, version: u64, dirty: u64) -> Head
 }
 
 /// Puts a record.
-fn put(rt: &impl Abort, store: &mut MemStore, gfid: u128, head: &Head)
+pub fn put(rt: &impl Abort, store: &mut MemStore, gfid: u128, head: &Head)
     requires { head.now.size ≤ 2 ^ 40 }
 {
     assert!(rt; store.put_head(Gfid(gfid), head).is_ok());
 }
 
 /// Sets a name to a file of this gfid.
-fn set(
+pub fn set(
     rt: &(impl Abort + AllocGlobal),
     store: &mut MemStore,
     gfid: u128,
@@ -61,6 +56,7 @@ fn set(
     assert!(rt; store.set_name(Gfid(gfid), &name, Some(child)).is_ok());
 }
 
-fn brick_of(rt: &(impl Abort + AllocGlobal)) -> Brick {
+/// A brick of 2+1 that is just started.
+pub fn brick_of(rt: &(impl Abort + AllocGlobal)) -> Brick {
     Brick::new(rt.alloc(), config_of(rt))
 }

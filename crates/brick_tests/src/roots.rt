@@ -1,7 +1,7 @@
 // The root's first record, and what is forgotten.
-use crate::start_fault::StartFault;
-use crate::tests::{brick_of, head_of, put};
+use crate::records::{brick_of, head_of, put};
 use ec_attr::{Gfid, Kind};
+use ec_brick::StartFault;
 use ec_store::{BrickStore, Fail as StoreFail, FailList, MemStore, Method};
 use std::test::Fail;
 

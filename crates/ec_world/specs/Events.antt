@@ -11,14 +11,11 @@ use Rattle.ec_cluster.specs.declared.cluster.Cluster.{Cluster}
 use Rattle.ec_conduct.specs.Given.{Given}
 use Rattle.ec_conduct.specs.Own.{Own}
 use Rattle.ec_history.specs.IsRun.{IsRun}
-use Rattle.ec_history.specs.Run.{run}
-use Rattle.ec_history.specs.Script.{IsOfEvent, Settles, Step, entries_of}
+use Rattle.ec_history.specs.Script.{IsOfEvent, Step, entries_of}
 use Rattle.ec_store.specs.Records.{Records}
 use Rattle.ec_txn.specs.declared.ctx.Ctx.{Ctx}
 use Rattle.ec_wire.specs.declared.entry.Entry.{Entry}
 use Rattle.ec_wire.specs.declared.event.Event.{Event}
-use Rattle.ec_wire.specs.declared.event.Event.TheVariants.{Settle}
-use Rattle.ec_world.specs.Quiet.{IsQuiet}
 use Rattle.ec_world.specs.Refusals.{IsRefusal}
 use Rattle.ec_world.specs.declared.refused.Refused.{Refused}
 use Rattle.ec_world.specs.declared.refused.Refused.TheVariants.{NoMemory}
@@ -52,10 +49,8 @@ abbrev pub Stepped : {C : Type 0} → (Ctx → Given → C → List Own → Type
 Stepped stands by_table Told Of s t c d before after o (Ok x) = (o ≡ None) × Advances stands by_table Told Of s t c d before after
 Stepped stands by_table Told Of s t c d before after o (Err e) = Refuses stands by_table Told s t c d before after o e
 
--- The steps of an event, as the history of a run has them. Of a settling it is not said here that in the end nobody waits
--- for a grant that an idle client keeps.
+-- the steps of an event, as the history of a run has them
 abbrev pub OfEvent : ℕ → Event → Come → List Step → Type 0
-OfEvent n Settle p steps = Settles p.net steps × IsQuiet (run (entries_of steps) p.net)
 OfEvent n event p steps = IsOfEvent n p.net event steps
 
 -- What comes of an event: it is refused by the first of its causes, or is done.

@@ -1,10 +1,10 @@
 pub mod Address
 pub mod Events
-pub mod Quiet
 pub mod Refusals
 pub mod Resting
 pub mod Settling
 pub mod Steps
 pub mod Unanswered
+pub mod UnderWay
 pub mod Whole
 pub mod World

@@ -19,7 +19,7 @@ use Rattle.ec_wire.specs.declared.event.Event.{Event}
 use Rattle.ec_wire.specs.declared.event.Event.TheVariants.{Call, Die, Until}
 use Rattle.ec_wire.specs.declared.phase.Phase.{Phase}
 use Rattle.ec_world.specs.Events.{OfEvent}
-use Rattle.ec_world.specs.Quiet.{EachBefore, IsUnderWay}
+use Rattle.ec_world.specs.UnderWay.{EachBefore, IsUnderWay}
 
 -- The parts of a world fit one another, and are as what has come of its log says, whatever bricks it began over.
 pub record IsWorld {C : Type 0} (stands : Ctx → Given → C → List Own → Type 0) (by_table : Ctx → Given → List Own → Type 0) (s : Cluster) (c : Clients C) : Type 0 where

@@ -9,7 +9,7 @@ ghost use Rattle.ec_cluster.specs.Sound.{IsSound};
 ghost use Rattle.ec_cluster.specs.Views.{size_of};
 ghost use Rattle.ec_wire.specs.declared.event.Event.TheVariants.{Settle};
 ghost use Rattle.ec_world.specs.Events.{Breaks, OfEvent, Stepped};
-ghost use Rattle.ec_world.specs.Quiet.{IsStill};
+ghost use Rattle.ec_world.specs.UnderWay.{IsStill};
 ghost use Rattle.ec_world.specs.Refusals.{until_refusal};
 ghost use Rattle.ec_world.specs.Resting.{IsFirst, IsFree, IsFreeBelow, IsFreeOf, IsStuckAt, IsStuckBy, Rests};
 ghost use Rattle.ec_world.specs.Settling.{GoesOn};

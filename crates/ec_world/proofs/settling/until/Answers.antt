@@ -8,7 +8,7 @@ use Rattle.ec_cluster.specs.Views.{size_of}
 use Rattle.ec_world.specs.World.{OfUntil}
 use Rattle.ec_world.proofs.Permitting.{may_until}
 use Rattle.ec_world.specs.Settling.{GoesOn}
-use Rattle.ec_world.specs.Quiet.{EachBefore, IsUnderWay}
+use Rattle.ec_world.specs.UnderWay.{EachBefore, IsUnderWay}
 use Rattle.ec_world.specs.Steps.{OneStep}
 use Rattle.ec_world.proofs.Becoming.{advances_as, breaks_as}
 use Rattle.ec_world.proofs.Chaining.{before_more, chain_breaks, chained, no_steps, same_end, settles_more, stopped, until_is}

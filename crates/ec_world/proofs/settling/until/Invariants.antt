@@ -4,7 +4,7 @@ use Rattle.std.specs.List.{list_all}
 use Rattle.ec_clients.specs.Calls.{tabled}
 use Rattle.ec_history.specs.Script.{Settles}
 use Rattle.ec_world.specs.Events.{Advances}
-use Rattle.ec_world.specs.Quiet.{EachBefore, IsUnderWay}
+use Rattle.ec_world.specs.UnderWay.{EachBefore, IsUnderWay}
 use Rattle.ec_world.proofs.settling.until.Given as goal
 
 abbrev pub invariant-loop : goal.invariant-loop

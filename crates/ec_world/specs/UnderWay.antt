@@ -1,4 +1,4 @@
--- A net in which nothing goes on by itself, and calls that are under way.
+-- Calls that are under way.
 use Rattle.std.specs.Prelude.{◌≡◌, ◌≢◌, ℕ, Option, Some, IfSome, List, [], ◌∷◌}
 use Rattle.ec_attr.specs.declared.geometry.Geometry.{Geometry}
 use Rattle.ec_clients.specs.Come.{Come, come}
@@ -9,15 +9,9 @@ use Rattle.ec_clients.specs.declared.clients.Running.{Running}
 use Rattle.ec_cluster.specs.declared.cluster.Cluster.{Cluster}
 use Rattle.ec_conduct.specs.Given.{Given}
 use Rattle.ec_conduct.specs.Own.{Own}
-use Rattle.ec_history.specs.Run.{Net}
-use Rattle.ec_history.specs.Script.{NobodyStuck, NoneFly, Step}
+use Rattle.ec_history.specs.Script.{Step}
 use Rattle.ec_txn.specs.declared.ctx.Ctx.{Ctx}
 use Rattle.ec_wire.specs.declared.phase.Phase.{Phase}
-
--- nothing is in flight, and no client that lives waits in vain
-pub record IsQuiet (m : Net) : Type 0 where
-  pub none_fly : NoneFly m
-  pub none_stuck : NobodyStuck m
 
 -- client j runs the call of this number, which is in another phase
 abbrev pub IsStill : {C P : Type 0} → (C → Option P) → (P → Phase) → Clients C → ℕ → ℕ → Phase → Type 0

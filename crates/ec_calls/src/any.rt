@@ -161,11 +161,13 @@ impl AnyCall {
 }
 
 impl<T: RowTimes> Call<T> for AnyCall {
-    ghost use Rattle.std.specs.Prelude.{refl};
+    ghost use Rattle.std.specs.Prelude.{is_some, refl, true};
     ghost use Rattle.std.proofs.Common.{inl, inr};
     ghost use Rattle.ec_calls.specs.Any.{table_as};
     ghost use Rattle.ec_conduct.specs.Conduct.{Keeps};
+    ghost use Rattle.ec_conduct.specs.Opened.{account};
     ghost use Rattle.ec_conduct.specs.Table.{IsByTable};
+    ghost use Rattle.ec_txn.specs.Released.{HoldsNothing};
     ghost use Rattle.ec_calls.specs.declared.any.AnyCall.TheVariants.{GetAttr as GetAttrOf, Lookup as LookupOf, Make as MakeOf, Read as ReadOf, Readdir as ReaddirOf, SetAttr as SetAttrOf, Stat as StatOf, Truncate as TruncateOf, Unlink as UnlinkOf, Write as WriteOf};
     ghost use Rattle.ec_calls.specs.declared.any.AnyStage.TheVariants.{GetAttr as GetAttrAt, Lookup as LookupAt, Make as MakeAt, Read as ReadAt, Readdir as ReaddirAt, SetAttr as SetAttrAt, Stat as StatAt, Truncate as TruncateAt, Unlink as UnlinkAt, Write as WriteAt};
 
@@ -286,4 +288,6 @@ impl<T: RowTimes> Call<T> for AnyCall {
       | UnlinkOf own ↦ λ s. table_as UnlinkAt (⟦<UnlinkCall as Conduct>⟧.begins x) (⟦<UnlinkCall as Conduct>⟧.goes x) (⟦<AnyCall as Conduct>⟧.begins x) (⟦<AnyCall as Conduct>⟧.goes x) (λ given step b. inr (inr (inr (inr (inr (inr (inr (inr (inl (step, b, refl)))))))))) (λ p c step w. (step, w, refl)) given es own.stage s.by_table
       | TruncateOf own ↦ λ s. table_as TruncateAt (⟦<TruncateCall as Conduct>⟧.begins x) (⟦<TruncateCall as Conduct>⟧.goes x) (⟦<AnyCall as Conduct>⟧.begins x) (⟦<AnyCall as Conduct>⟧.goes x) (λ given step b. inr (inr (inr (inr (inr (inr (inr (inr (inr (step, b, refl)))))))))) (λ p c step w. (step, w, refl)) given es own.stage s.by_table
     ] };
+
+    ghost releases = { λ x given call es kept. elim call as (λ call. ⟦<AnyCall as Conduct>⟧.stands x given call es → is_some (account given es).answer ≡ true → HoldsNothing (account given es)) [ StatOf own ↦ λ s. s.released | LookupOf own ↦ λ s. s.released | GetAttrOf own ↦ λ s. s.released | SetAttrOf own ↦ λ s. s.released | ReadOf own ↦ λ s. s.released | WriteOf own ↦ λ s. s.released | MakeOf own ↦ λ s. s.released | ReaddirOf own ↦ λ s. s.released | UnlinkOf own ↦ λ s. s.released | TruncateOf own ↦ λ s. s.released ] };
 }

@@ -5,6 +5,7 @@ pub mod Lists
 pub mod Next
 pub mod Opening
 pub mod ReadPhase
+pub mod Released
 pub mod Replies
 pub mod Rounds
 pub mod Steps

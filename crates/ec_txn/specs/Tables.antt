@@ -1,5 +1,5 @@
 -- The table of a call on one gfid, what makes it keep the conduct, and what a call that goes by it stands for.
-use Rattle.std.specs.Prelude.{◌≡◌, ◌≢◌, ◌⊎◌, ℕ, ◌<◌, Bool, true, false, Option, Some, None, List, [], vec_len}
+use Rattle.std.specs.Prelude.{◌≡◌, ◌≢◌, ◌⊎◌, ℕ, ◌<◌, Bool, true, false, is_some, Option, Some, None, List, [], vec_len}
 use Rattle.ec_conduct.specs.Account.{Account, at}
 use Rattle.ec_conduct.specs.Conduct.{IsEarned, Keeps, MaySend}
 use Rattle.ec_conduct.specs.Given.{Given, bricks_of}
@@ -15,6 +15,7 @@ use Rattle.ec_txn.specs.declared.stage.Next.{Next}
 use Rattle.ec_txn.specs.declared.stage.Next.TheVariants.{Go, Say}
 use Rattle.ec_txn.specs.Digest.{Shows, all_sent, no_place, place_at}
 use Rattle.ec_txn.specs.Rounds.{Asks, IsFirst, IsIdle, IsMore, IsOn, IsReady, IsReleased, IsRound, IsSent, IsTaken, IsUnlocked, IsWaiting, joined, round, subject, where_so}
+use Rattle.ec_txn.specs.Released.{HoldsNothing}
 use Rattle.ec_txn.specs.Replies.{reply_at}
 
 -- A call's stages: which comes first, what each asks of a brick by the account at which it begins, whether it asks again
@@ -82,6 +83,7 @@ pub record Stands {P : Type 0} (x : Ctx) (given : Given) (fits : Type 0) (t : Ta
   pub answered : (account given es).answer ≡ answer
   pub goes_on : (p : P) → stage ≡ Some p → InStage x given (during p) (account given es)
   pub ended : stage ≡ None → IsIdle (account given es)
+  pub released : is_some (account given es).answer ≡ true → HoldsNothing (account given es)
 
 -- what is known at an account of a call
 pub record Sees (x : Ctx) (fits : Given → Type 0) (known : Known) (c : Account) : Type 0 where

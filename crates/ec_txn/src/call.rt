@@ -1,5 +1,5 @@
 // What a call is to the history of a run, and to the one who drives it.
-ghost use Rattle.std.specs.Prelude.{◌≡◌, ℕ, ◌++◌, ◌∷◌, [], ◌<◌, ◌^◌, IfOk, IfSome, List, Some, None, is_some};
+ghost use Rattle.std.specs.Prelude.{◌≡◌, ℕ, ◌++◌, ◌∷◌, [], ◌<◌, ◌^◌, IfOk, IfSome, List, Some, None, is_some, true};
 ghost use Rattle.std.specs.declared.option.Option.{Option};
 ghost use Rattle.ec_attr.specs.Bricks.{is_in};
 ghost use Rattle.ec_brick.specs.Fit.{IsFitReply};
@@ -9,6 +9,7 @@ ghost use Rattle.ec_conduct.specs.Given.{Given};
 ghost use Rattle.ec_conduct.specs.Opened.{account};
 ghost use Rattle.ec_conduct.specs.Own.{GivesUp, Hears, Own};
 ghost use Rattle.ec_conduct.specs.Table.{IsByTable, Step};
+ghost use Rattle.ec_txn.specs.Released.{HoldsNothing};
 ghost use Rattle.ec_txn.specs.Steps.{Adds, answer_of, number_of};
 ghost use Rattle.ec_txn.specs.declared.ctx.Ctx.{Ctx as CtxOf};
 ghost use Rattle.ec_wire.specs.declared.phase.Phase.{Phase as PhaseOf};
@@ -87,4 +88,7 @@ pub trait Call<T>: Conduct + Drop {
 
     /// and are by its table.
     ghost by_table: { (x : CtxOf) (given : Given) (call : Self) (es : List Own) → Self.stands x given call es → IsByTable (Self.begins x) (Self.goes x) given es (Self.stage call) };
+
+    /// A call that was begun with no kept grants has released all of its asks once it is answered.
+    ghost releases: { (x : CtxOf) (given : Given) (call : Self) (es : List Own) → given.kept ≡ None → Self.stands x given call es → is_some (account given es).answer ≡ true → HoldsNothing (account given es) };
 }

@@ -310,4 +310,6 @@ impl<T, P: Work<T>> Call<T> for Round<P> {
     ghost keeps = { λ x given call es s. s.keeps };
 
     ghost by_table = { λ x given call es s. s.by_table };
+
+    ghost releases = { λ x given call es kept s over. s.released over };
 }

@@ -8,6 +8,7 @@ pub mod Fetching
 pub mod Going
 pub mod Groups
 pub mod Hearing
+pub mod Listed
 pub mod Lists
 pub mod Openings
 pub mod Places

@@ -221,17 +221,38 @@ given_of : (g : ℕ) (o p : Option Lock) → ((lock : Lock) → o ≡ Some lock 
 given_of g None p k = inl refl
 given_of g (Some lock) p k = elim (cases_Bool lock.granted) [ inl t ↦ inr (lock, k lock refl t, rw t refl) | inr f ↦ inl (rw f refl) ]
 
+-- a lock is given back where it stands
+back_gone : (g : ℕ) (o : Option Lock) (p : Place) → ((lock : Lock) → p.inode ≡ Some lock → (lock.granted ≡ true) × (o ≡ Some lock)) → (dropped (given_back g o) p).inode ≡ None
+back_gone g o p k = go p.inode refl
+  where
+    go : (q : Option Lock) → p.inode ≡ q → (dropped (given_back g o) p).inode ≡ None
+    go None e = dropped_none (given_back g o) p e
+    go (Some lock) e = let h = k lock e in subst (λ (v : Option Lock). (dropped (given_back g v) p).inode ≡ None) (sym h.1) (let t = h.0 in rw t refl)
+
+past_gone : (o : Option Lock) (p : Place) → ((lock : Lock) → p.inode ≡ Some lock → (lock.granted ≡ true) × (o ≡ Some lock)) → o ≡ None → p.inode ≡ None
+past_gone o p k none = go p.inode refl
+  where
+    go : (q : Option Lock) → p.inode ≡ q → p.inode ≡ None
+    go None e = e
+    go (Some lock) e = absurd (let v : None ≡ Some lock = sym none ∙ (k lock e).1 in cc)
+
 pub record LastTo (g i : ℕ) (c d : Account) (ss : List Send) : Type 0 where
   pub good : AllGood g d i ss
   pub ready : IsReady g (sent_all d i ss)
   pub is : IsReleased g c (sent_all d i ss)
+  pub gone : (x : ℕ) → (at (sent_all d i ss) g x).inode ≡ None
 
-pub last_to : (g i : ℕ) (c d : Account) → IsReady g d → IsUnlocked g c d → LastTo g i c d (give_back c g)
-last_to g i c d ready u =
+pub last_to : (g i : ℕ) (c d : Account) → IsReady g d → IsUnlocked g c d → ((y : ℕ) → bricks_of c.given ≤ y → (at c g y).inode ≡ None) → LastTo g i c d (give_back c g)
+last_to g i c d ready u none =
     let n = bricks_of c.given in
     let s = λ (x : ℕ). given_back g (at c g x).inode in
     let e = sent_all d i (to_bricks n s) in
     let same : n ≤ bricks_of d.given = (let v = ap bricks_of u.given in omega (arith, v)) in
     let w = released_to g i n d s ready (λ y. given_of g (at c g y).inode (at d g y).inode (u.kept y)) same in
     let r = is_released g i n d e s ready w.0 in
-    record { good = w.1; ready = still_ready g i n d e s ready w.0; is = record { given = r.given ∙ u.given; window = λ x. r.window x ∙ u.window x } }
+    record {
+      good = w.1;
+      ready = still_ready g i n d e s ready w.0;
+      is = record { given = r.given ∙ u.given; window = λ x. r.window x ∙ u.window x };
+      gone = λ x. place_is g i n d e s ready w.0 (λ (p : Place). p.inode ≡ None) x (λ l. back_gone g (at c g x).inode (at d g x) (u.inode x)) (λ l. past_gone (at c g x).inode (at d g x) (u.inode x) (none x l));
+    }

@@ -25,6 +25,7 @@ use Rattle.ec_txn.specs.Digest.{Shows, all_sent, digest, held, no_place, pending
 use Rattle.ec_txn.specs.Rounds.{AllGood, Asks, IsFirst, IsGood, IsIdle, IsListed, IsOn, IsReady, IsReleased, IsRound, IsSent, IsTaken, IsUnlocked, IsWaiting, give_back, joined, round, subject, unlock, where_so}
 use Rattle.ec_txn.specs.Steps.{Adds}
 use Rattle.ec_txn.specs.Tables.{Begins, Goes, InStage, IsIn, IsOf, IsSound, Stands, Table, TakesFirst, TakesStep}
+use Rattle.ec_txn.proofs.Listed.{IsLetGo, holds_nothing}
 use Rattle.ec_txn.proofs.Lists.{sent_append}
 use Rattle.ec_txn.proofs.Places.{past_last}
 use Rattle.ec_txn.proofs.Releasing.{last_to, unlocked_to}
@@ -63,6 +64,7 @@ pub record Leaves {P : Type 0} (x : Ctx) (given : Given) (during : P → Account
   pub goes_on : (q : P) → step.stage ≡ Some q → InStage x given (during q) (sent_all c i step.sends)
   pub ended : step.stage ≡ None → IsIdle (sent_all c i step.sends)
   pub silent : (q : P) → step.stage ≡ Some q → step.answer ≡ None
+  pub released : is_some step.answer ≡ true → IsLetGo (subject given.op) (sent_all c i step.sends)
 
 ready_after : (g : ℕ) (c d : Account) (f : Asks) → IsReady g c → IsRound g c f d → IsIdle d → IsReady g d
 ready_after g c d f ready r idle = record { unanswered = r.unanswered ∙ ready.unanswered; idle = idle; heal = r.heal; gfids = r.gfids }
@@ -94,6 +96,7 @@ module _ {P : Type 0} (x : Ctx) (t : Table P) (during : P → Account → Asks �
         goes_on = λ s es. subst (λ (z : P). InStage x given (during z) (sent_all c i (unlock c g ++ round (bricks_of c.given) (t.asks q c)))) (some_same q s es) (d, t.asks q c, isin', dur, round');
         ended = λ es. absurd (cc);
         silent = λ s es. refl;
+        released = λ some. absurd (let x : false ≡ true = some in cc);
       }
 
   says_good : (given : Given) (i : ℕ) (p : P) (answer : Answer) (c : Account) → c.given ≡ given → InStage x given (during p) c → ((y : ℕ) → bricks_of given ≤ y → (at c (subject given.op) y).inode ≡ None) → IsIdle c → t.follows p c (Say answer)
@@ -104,9 +107,10 @@ module _ {P : Type 0} (x : Ctx) (t : Table P) (during : P → Account → Asks �
       let u = unlocked_to g i c ready (λ y l. none y (let v = ap bricks_of e in omega (arith, v))) in
       let d = sent_all c i (unlock c g) in
       let j = i + length (unlock c g) in
-      let w = last_to g j c d u.ready u.is in
+      let w = last_to g j c d u.ready u.is (λ y l. none y (let v = ap bricks_of e in omega (arith, v))) in
       let ends : sent_all c i (unlock c g ++ give_back c g) ≡ sent_all d j (give_back c g) = sent_append c i (unlock c g) (give_back c g) in
       let last : IsReady g (sent_all c i (unlock c g ++ give_back c g)) = subst (IsReady g) (sym ends) w.ready in
+      let gone : (x : ℕ) → (at (sent_all c i (unlock c g ++ give_back c g)) g x).inode ≡ None = subst (λ (z : Account). (x : ℕ) → (at z g x).inode ≡ None) (sym ends) w.gone in
       let same : IsReleased g c (sent_all c i (unlock c g ++ give_back c g)) = subst (IsReleased g c) (sym ends) w.is in
       record {
         good = good_append g c i (unlock c g) (give_back c g) u.good w.good;
@@ -115,6 +119,7 @@ module _ {P : Type 0} (x : Ctx) (t : Table P) (during : P → Account → Asks �
         goes_on = λ s es. absurd (cc);
         ended = λ es. last.idle;
         silent = λ s es. absurd (cc);
+        released = λ some. record { gfids = last.gfids; inode = gone; heal = last.heal };
       }
 
   taken : (given : Given) (i : ℕ) (p : P) (c : Account) (step : Step P) (next : Next P) → c.given ≡ given → InStage x given (during p) c → ((y : ℕ) → bricks_of given ≤ y → (at c (subject given.op) y).inode ≡ None) → IsIdle c → t.follows p c next
@@ -131,6 +136,7 @@ module _ {P : Type 0} (x : Ctx) (t : Table P) (during : P → Account → Asks �
     goes_on = λ q es. subst (λ (z : P). InStage x given (during z) c) (some_same p q es) s;
     ended = λ es. absurd (cc);
     silent = λ q es. refl;
+    released = λ some. absurd (let x : false ≡ true = some in cc);
   })
   again_leaves given i p c true es e (c0, f, isin, d0, r) =
       let g = subject given.op in
@@ -146,6 +152,7 @@ module _ {P : Type 0} (x : Ctx) (t : Table P) (during : P → Account → Asks �
         goes_on = λ q eq. subst (λ (z : P). InStage x given (during z) (sent_all c i (round (bricks_of c.given) (t.asks p c)))) (some_same p q eq) (c0, joined f (t.asks p c), isin, m.0, r');
         ended = λ eq. absurd (cc);
         silent = λ q eq. refl;
+        released = λ some. absurd (let x : false ≡ true = some in cc);
       }
 
   pub step_leaves : (given : Given) (i : ℕ) (p : P) (c : Account) (step : Step P) → c.given ≡ given → InStage x given (during p) c → ((y : ℕ) → bricks_of given ≤ y → (at c (subject given.op) y).inode ≡ None) → Goes t p c step → Leaves x given during i c step
@@ -184,6 +191,10 @@ with_idle : (c : Account) (a : Option Answer) → IsIdle c → IsIdle (with_answ
 with_idle c None e = e
 with_idle c (Some answer) e = e
 
+with_let_go : (g : ℕ) (c : Account) (a : Option Answer) → IsLetGo g c → IsLetGo g (with_answer c a)
+with_let_go g c None w = w
+with_let_go g c (Some answer) w = record { gfids = w.gfids; inode = w.inode; heal = w.heal }
+
 -- one more entry, and the entries of the step that follows
 pub entries_join : (es fs : List Own) (e : Own) → (es ++ e ∷ []) ++ fs ≡ es ++ e ∷ fs
 entries_join es fs e = append_assoc es (e ∷ []) fs
@@ -205,6 +216,7 @@ module _ {P : Type 0} (x : Ctx) (t : Table P) (during : P → Account → Asks �
       account_append (opened given) (es ++ what ∷ []) fs ∙ (ap (λ (z : Account). account_from z fs) (account_append (opened given) es (what ∷ []) ∙ e) ∙ step_account c i sends said) in
       let shown : Shows g (bricks_of given) new d = record { len = len ∙ sh.len; each = subst (λ h. ShowsAll g h d) (sym k.places) (all_shows g i (place_at told.places.items) c sends good sh.each); room = ap (λ (r : Replies). vec_len r.items) k.replies ∙ sh.room; told = subst (λ (r : Replies). TellsAll g (reply_at r.items.items) d) (sym k.replies) (all_tell g i (reply_at told.replies.items.items) c sends good sh.told) } in
       let unanswered : d.answer ≡ None = ap (λ (z : Account). z.answer) same ∙ l.unanswered in
+      let told_is : (account given ((es ++ what ∷ []) ++ fs)).answer ≡ said = ap (λ (z : Account). z.answer) acc ∙ with_answered d said unanswered in
       let may_end : MayEnd d said = subst (λ (a : Option Answer). MayEnd d a) (sym k.answer_is) (subst (λ (z : Account). MayEnd z k.step.answer) (sym same) l.may) in
       let kept : KeepsFrom (account_from (opened given) es) (what ∷ fs) = (m, subst (λ (z : Account). KeepsFrom z fs) (sym e) (step_keeps c i sends said (good_may g c i sends good) may_end)) in
       record {
@@ -227,10 +239,11 @@ module _ {P : Type 0} (x : Ctx) (t : Table P) (during : P → Account → Asks �
               k.stage_is,
             ),
           );
-          answered = ap (λ (z : Account). z.answer) acc ∙ with_answered d said unanswered;
+          answered = told_is;
           goes_on = λ q eq. (let quiet : said ≡ None = k.answer_is ∙ l.silent q (sym k.stage_is ∙ eq) in
               subst (λ (z : Account). InStage x given (during q) z) (sym (acc ∙ ap (with_answer d) quiet)) (subst (λ (z : Account). InStage x given (during q) z) (sym same) (l.goes_on q (sym k.stage_is ∙ eq))));
           ended = λ eq. subst IsIdle (sym acc) (with_idle d said (subst IsIdle (sym same) (l.ended (sym k.stage_is ∙ eq))));
+          released = λ some. holds_nothing given ((es ++ what ∷ []) ++ fs) g s.of.kept (subst (IsLetGo g) (sym acc) (with_let_go g d said (subst (IsLetGo g) (sym same) (l.released (ap is_some (sym k.answer_is ∙ sym told_is) ∙ some)))));
         };
         below = good_below g (bricks_of given) c i sends (ap bricks_of eg) good;
         fit = good_fit g c i sends good;
@@ -268,6 +281,7 @@ module _ {P : Type 0} (x : Ctx) (t : Table P) (during : P → Account → Asks �
         goes_on = λ s es. subst (λ (z : P). InStage x given (during z) (sent_all c i (round (bricks_of given) (t.asks q c)))) (some_same q s es) (c, t.asks q c, isin, dur, w.1);
         ended = λ es. absurd (cc);
         silent = λ s es. refl;
+        released = λ some. absurd (let x : false ≡ true = some in cc);
       })
   first_leaves given i step (Say answer) of starts is =
       subst (Leaves x given during i (opened given)) (sym is) (record {
@@ -277,6 +291,7 @@ module _ {P : Type 0} (x : Ctx) (t : Table P) (during : P → Account → Asks �
         goes_on = λ s es. absurd (cc);
         ended = λ es y. refl;
         silent = λ s es. absurd (cc);
+        released = λ some. (let ready = opened_ready given (subject given.op) of.kept in record { gfids = ready.gfids; inode = λ x. ap (λ (p : PlaceOf). p.inode) (opened_place given (subject given.op) x of.kept); heal = ready.heal });
       })
 
   pub begun : (given : Given) (fits : Type 0) (ctx : Ctx) (gfid : ℕ) (new : Known) (i : ℕ) (stage : Option P) (said : Option Answer) (sends : List Send)
@@ -293,6 +308,7 @@ module _ {P : Type 0} (x : Ctx) (t : Table P) (during : P → Account → Asks �
       let acc : account given fs ≡ with_answer d said = step_account c i sends said in
       let shown : Shows g (bricks_of given) new d = record { len = k.len; each = subst (λ h. ShowsAll g h d) (sym k.places) (all_shows g i (λ y. no_place) c sends good (opened_shows given g of.kept)); room = k.room; told = all_tell g i (reply_at new.replies.items.items) c sends good (λ y. k.untold y ∙ sym (ap (λ (p : PlaceOf). last_reply p.window) (opened_place given g y of.kept))) } in
       let unanswered : d.answer ≡ None = ap (λ (z : Account). z.answer) same ∙ l.unanswered in
+      let told_is : (account given fs).answer ≡ said = ap (λ (z : Account). z.answer) acc ∙ with_answered d said unanswered in
       let may_end : MayEnd d said = subst (λ (a : Option Answer). MayEnd d a) (sym k.answer_is) (subst (λ (z : Account). MayEnd z k.step.answer) (sym same) l.may) in
       record {
         stands = record {
@@ -304,10 +320,11 @@ module _ {P : Type 0} (x : Ctx) (t : Table P) (during : P → Account → Asks �
           shows = subst (λ (z : Account). Shows g (bricks_of given) new z) (sym acc) (with_shows g (bricks_of given) new d said shown);
           keeps = step_keeps c i sends said (good_may g c i sends good) may_end;
           by_table = ([], (i, k.step, k.begins, λ j. entries_of i (k.sends_are j) (k.answer_is j), k.stage_is));
-          answered = ap (λ (z : Account). z.answer) acc ∙ with_answered d said unanswered;
+          answered = told_is;
           goes_on = λ q eq. (let quiet : said ≡ None = k.answer_is ∙ l.silent q (sym k.stage_is ∙ eq) in
               subst (λ (z : Account). InStage x given (during q) z) (sym (acc ∙ ap (with_answer d) quiet)) (subst (λ (z : Account). InStage x given (during q) z) (sym same) (l.goes_on q (sym k.stage_is ∙ eq))));
           ended = λ eq. subst IsIdle (sym acc) (with_idle d said (subst IsIdle (sym same) (l.ended (sym k.stage_is ∙ eq))));
+          released = λ some. holds_nothing given fs g of.kept (subst (IsLetGo g) (sym acc) (with_let_go g d said (subst (IsLetGo g) (sym same) (l.released (ap is_some (sym k.answer_is ∙ sym told_is) ∙ some)))));
         };
         below = good_below g (bricks_of given) c i sends refl good;
         fit = good_fit g c i sends good;

@@ -2,6 +2,7 @@
 use Rattle.std.proofs.Common.{◌≡◌, ◌⊎◌, inl, inr, ℕ, ◌+◌, ◌<◌, ◌≤◌, ◌==◌, Bool, true, false, cond, refl, sym, ◌∙◌, ap, subst, List, [], ◌∷◌, ◌++◌, length, arith, Option, Some, None, eq-eqb, vec_len, Ok, Err}
 use Rattle.std.specs.Prelude.{IfOk, OnOk, Result}
 use Rattle.std.proofs.Math.Path.{fun_ext}
+use Rattle.std.proofs.lemmas.Bool.{cases_lt}
 use Rattle.ec_conduct.specs.Account.{Account, Exchange, Wait, account_from, after, filed, gave_up, gfid_of, heard_by, left_by, over as over_at, told as told_by}
 use Rattle.ec_conduct.specs.Given.{Given, bricks_of}
 use Rattle.ec_conduct.specs.Locks.{is_heal}
@@ -15,12 +16,13 @@ use Rattle.ec_txn.specs.declared.ctx.Ctx.{Ctx}
 use Rattle.ec_txn.specs.declared.known.Known.{Known}
 use Rattle.ec_txn.specs.declared.known.Place.{Place}
 use Rattle.ec_txn.specs.declared.stage.Next.TheVariants.{Go, Say}
-use Rattle.ec_txn.specs.Digest.{Shows, all_sent, given_up, heard, no_place, place_at}
+use Rattle.ec_txn.specs.Digest.{Shows, all_sent, given_up, heard, no_place, pending, place_at}
 use Rattle.ec_txn.specs.Rounds.{Asks, IsOn, IsRound, one, round, subject}
 use Rattle.ec_txn.specs.Steps.{Adds, given_of}
 use Rattle.ec_wire.specs.declared.op.Op.{Op}
 use Rattle.ec_txn.specs.Tables.{Begins, InStage, IsIn, IsOf, IsSound, Sees, Stands, Table, TakesFirst, TakesStep}
 use Rattle.ec_txn.proofs.Hearing.{asked_at, over_does, round_over}
+use Rattle.ec_txn.proofs.Places.{past_last}
 use Rattle.ec_txn.proofs.Shown.{ShowsAll, left_shows, over_tells, told_shows}
 use Rattle.ec_txn.specs.Replies.{TellsAll, last_reply, reply_at}
 use Rattle.ec_txn.specs.declared.replies.Replies.{Replies}
@@ -170,6 +172,21 @@ module _ {P : Type 0} (tab : Ctx → Table P) (dur : Ctx → P → Account → A
         subst (λ h. ShowsAll (subject given.op) h (gave_up a b w)) (sym places) (left_shows (subject given.op) b (place_at old.places.items) a w wait o.1 s.shows.each),
         subst (λ h. TellsAll (subject given.op) h (gave_up a b w)) (sym noted) (over_tells (subject given.op) b (reply_at old.replies.items.items) a (record { number = w.number; request = w.request; reply = None }) o.1 s.shows.told),
       ))
+
+no_pending : (w : Wait) → pending (Some w) ≡ None → ⊥
+no_pending w e = absurd (cc)
+
+-- a brick that is waited for has its place in what is known
+pub has_place : {P : Type 0} (x : Ctx) (given : Given) (fits : Type 0) (t : Table P) (during : P → Account → Asks → Type 0) (ctx : Ctx) (gfid : ℕ) (known : Known) (stage : Option P) (answer : Option Answer) (es : List Own) (b : ℕ) (w : Wait)
+    → Stands x given fits t during ctx gfid known stage answer es → (account given es).waits b ≡ Some w
+    → (vec_len known.places ≡ ctx.geometry.n) × (vec_len known.replies.items ≡ ctx.geometry.n) × (b < ctx.geometry.n)
+has_place x given fits t during ctx gfid known stage answer es b w s wait =
+    let n : bricks_of given ≡ ctx.geometry.n = size_of x given s.of ∙ sym (ap (λ (z : Ctx). z.geometry.n) s.ctx_is) in
+    let len : vec_len known.places ≡ ctx.geometry.n = s.shows.len ∙ n in
+    (len, s.shows.room ∙ n, elim (cases_lt b ctx.geometry.n) [
+      | inl l ↦ l
+      | inr l ↦ absurd (no_pending w (ap pending (sym wait) ∙ ap (λ (p : Place). p.waits) (sym (s.shows.each b) ∙ past_last known.places.items b (omega (arith, l, len, known.places.ok.0)))))
+    ])
 
 pub if_both : {A E : Type 0} (r : Result A E) (P : A → Type 0) (Q : Type 0) (R : A → Type 0) → ((a : A) → P a → Q → R a) → IfOk r P → OnOk r Q → IfOk r R
 if_both (Ok a) P Q R f p q = f a p q

@@ -17,18 +17,18 @@ use Rattle.ec_conduct.specs.Given.{Given}
 use Rattle.ec_conduct.specs.Own.{Own}
 use Rattle.ec_history.specs.IsRun.{IsRun}
 use Rattle.ec_history.specs.Run.{Net, run}
-use Rattle.ec_history.specs.Script.{IsSettling, Settles, Step, entries_of}
+use Rattle.ec_history.specs.Script.{IsSettled, IsSettling, Settles, Step, entries_of}
 use Rattle.ec_store.specs.Records.{Records}
 use Rattle.ec_txn.specs.declared.ctx.Ctx.{Ctx}
 use Rattle.ec_wire.specs.declared.entry.Entry.{Entry}
 use Rattle.ec_wire.specs.declared.event.Event.TheVariants.{Settle}
 use Rattle.ec_wire.specs.declared.phase.Phase.{Phase}
 use Rattle.ec_world.specs.Events.{Advances, Breaks, OfEvent}
-use Rattle.ec_world.specs.Quiet.{EachBefore, IsQuiet, IsUnderWay}
+use Rattle.ec_world.specs.UnderWay.{EachBefore, IsUnderWay}
 use Rattle.ec_world.specs.Resting.{Rests}
 use Rattle.ec_world.specs.Steps.{OneStep}
 use Rattle.ec_world.specs.World.{IsCallOf, OfUntil}
-use Rattle.ec_world.proofs.InNet.{quiet_is}
+use Rattle.ec_world.proofs.InNet.{ReleasesAll, settled_is}
 
 pub entries_append : (xs ys : List Step) → entries_of (xs ++ ys) ≡ entries_of xs ++ entries_of ys
 entries_append [] ys = refl
@@ -129,8 +129,8 @@ module _ {C : Type 0} (stands : Ctx → Given → C → List Own → Type 0) (by
   same_end Of s t u c d e before mid after f g k x = subst (λ (z : Cluster). Advances stands by_table Told Of s z c e before after) (sym f) (subst (λ (z : Clients C). Advances stands by_table Told Of s t c z before after) (sym g) (subst (λ (z : List Records). Advances stands by_table Told Of s t c d before z) (sym k) x))
 
   -- steps of settling until the volume rests
-  pub rested : (n : ℕ) (s t : Cluster) (c d : Clients C) (before after : List Records) → HasClients c → Rests stands t d → Advances stands by_table Told (λ p steps. Settles p.net steps) s t c d before after → Advances stands by_table Told (OfEvent n Settle) s t c d before after
-  rested n s t c d before after many rests x = record {
+  pub rested : ReleasesAll stands → (n : ℕ) (s t : Cluster) (c d : Clients C) (before after : List Records) → HasClients c → Rests stands t d → Advances stands by_table Told (λ p steps. Settles p.net steps) s t c d before after → Advances stands by_table Told (OfEvent n Settle) s t c d before after
+  rested all n s t c d before after many rests x = record {
     steps = x.steps;
     log = x.log;
     size = x.size;
@@ -140,7 +140,7 @@ module _ {C : Type 0} (stands : Ctx → Given → C → List Own → Type 0) (by
     leads = x.leads;
     runs = λ told p h m.
         let r = x.runs told p h m in
-        (r.0, r.1, (r.2, subst (λ (z : Net). IsQuiet z) (net_is c.options.geometry (entries_of x.steps) p) (quiet_is stands by_table t d after (come c.options.geometry (entries_of x.steps) p) x.sound (x.leads p h) r.1 (record { slots = x.many.slots ∙ many.slots; lives = x.many.lives ∙ many.lives }) rests)));
+        (r.0, r.1, (r.2, subst IsSettled (net_is c.options.geometry (entries_of x.steps) p) (settled_is stands by_table t d after (come c.options.geometry (entries_of x.steps) p) x.sound (x.leads p h) r.1 all (record { slots = x.many.slots ∙ many.slots; lives = x.many.lives ∙ many.lives }) rests)));
   }
 
 -- the call is under way, which the client runs

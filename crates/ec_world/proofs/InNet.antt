@@ -33,13 +33,13 @@ use Rattle.ec_attr.specs.declared.kind.Domain.TheVariants.{Inode, Heal}
 use Rattle.ec_locks.specs.Table.{free, has_number, has_waiter, queued, some_grant, waited}
 use Rattle.ec_locks.specs.declared.ask.Ask.{Ask}
 use Rattle.ec_store.specs.Records.{Records}
+use Rattle.ec_txn.specs.Released.{HoldsNothing}
 use Rattle.ec_txn.specs.Steps.{number_of}
 use Rattle.ec_txn.specs.declared.ctx.Ctx.{Ctx}
 use Rattle.ec_wire.specs.declared.message.Body.{Body}
 use Rattle.ec_wire.specs.declared.message.Body.TheVariants.{ToBrick, ToClient}
 use Rattle.ec_wire.specs.declared.message.Message.{Message}
 use Rattle.ec_wire.specs.declared.request.Request.TheVariants.{Ask as AskOf}
-use Rattle.ec_world.specs.Quiet.{IsQuiet}
 use Rattle.ec_world.specs.Refusals.{IsAwaitedBy}
 use Rattle.ec_world.specs.Resting.{IsFirst, IsFree, IsFreeOf, IsStuckBy, Rests}
 use Rattle.ec_world.specs.Settling.{GoesNowhere, goes_nowhere}
@@ -80,10 +80,6 @@ granted_there test before (a ∷ rest) e = ⊎_elim
 
 waited_there : (asks : List Ask) (n : ℕ) → waited asks n ≡ true → (a : Ask) × Contains asks a × (a.number ≡ n)
 waited_there asks n e = let r = granted_there (λ a. has_number n a && has_waiter asks a) [] asks e in (r.0, r.1, eqb-true r.0.number n (first_true (has_number n r.0) (has_waiter asks r.0) r.2))
-
--- no ask of the call stands at any brick
-abbrev pub HoldsNothing : Account → Type 0
-HoldsNothing c = (g b : ℕ) → ((at c g b).inode ≡ None) × ((at c g b).heal ≡ None)
 
 -- A call that began with no kept grants has released each of its asks where it is answered.
 abbrev pub ReleasesAll : {C : Type 0} → (Ctx → Given → C → List Own → Type 0) → Type 0
@@ -193,13 +189,6 @@ module _ {C : Type 0} (stands : Ctx → Given → C → List Own → Type 0) (by
         brick = record { itself = k; least = λ b lt y. not_free x.client b y (f.stuck.lower b lt) };
       }
 
-  -- where the volume rests
-  pub quiet_is : HasClients c → Rests stands s c → IsQuiet p.net
-  quiet_is many rests = record {
-    none_fly = λ i. m.flies i ∙ ap is_some (rests.none_fly i);
-    none_stuck = λ j y. not_free_of j y.0 y.1 (rests.none_stuck j (let lt = slot_below (slots_of c) j _ (under j y.0 y.1).in_slot in let e = many.slots in omega arith));
-  }
-
   -- An idle client keeps no grant for which somebody waits, where calls release all of their asks.
   module _ (all : ReleasesAll stands) where
     over_is : (a : ℕ) (asker : Asker) (b i : ℕ) (x : Ask) → p.net.asker a ≡ Some asker → p.net.answered a ≡ true → Contains (p.books.own a) (Sends b i (AskOf x.gfid x.domain x.kind)) → p.net.let_go i ≡ true
@@ -236,4 +225,8 @@ module _ {C : Type 0} (stands : Ctx → Given → C → List Own → Type 0) (by
 
     -- where the volume rests it is settled
     pub settled_is : HasClients c → Rests stands s c → IsSettled p.net
-    settled_is many rests = let q = quiet_is many rests in record { none_fly = q.none_fly; none_stuck = q.none_stuck; none_waited = none_waited }
+    settled_is many rests = record {
+      none_fly = λ i. m.flies i ∙ ap is_some (rests.none_fly i);
+      none_stuck = λ j y. not_free_of j y.0 y.1 (rests.none_stuck j (let lt = slot_below (slots_of c) j _ (under j y.0 y.1).in_slot in let e = many.slots in omega arith));
+      none_waited = none_waited;
+    }

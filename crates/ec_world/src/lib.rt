@@ -4,7 +4,7 @@
 // by the entries that it names, with those that follow, which are a run where the stores tell; the clients and the bricks
 // are as the log says; and where there is no memory the log has the entries so far and the stores stand as these say.
 // Settling takes the lowest message in flight, or where none is in flight lets a client give up a brick that it waits for in
-// vain, until nothing of this is left.
+// vain, until nothing of this is left; nobody waits then for a grant that an idle client keeps.
 #![tactic(auto)]
 
 mod address;

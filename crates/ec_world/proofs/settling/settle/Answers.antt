@@ -46,4 +46,4 @@ returns-clause-stepped g c = stopped g.C.Conduct.stands (tabled g.C.Conduct.begi
 pub returns-in-Ok-false-clause-stepped : goal.returns-in-Ok-false-clause-stepped
 returns-in-Ok-false-clause-stepped g c =
     let rest = subst (λ (v : Bool). GoesOn g.C.Conduct.stands (tabled g.C.Conduct.begins g.C.Conduct.goes) (list_all g.S.BrickStore.told c.loop.stores ≡ true) c.loop.cluster c.settle_step.new.cluster c.loop.clients c.settle_step.new.clients (map g.S.BrickStore.records c.loop.stores) (map g.S.BrickStore.records c.settle_step.new.stores) v) c.in-Ok-false.field-0-test c.in-Ok-false.ensures.ok in
-    (refl, same_end g.C.Conduct.stands (tabled g.C.Conduct.begins g.C.Conduct.goes) (list_all g.S.BrickStore.told c.args.stores.now ≡ true) (OfEvent (size_of c.args.cluster.now) Settle) c.args.cluster.now c.loop.cluster c.settle_step.new.cluster c.args.clients.now c.loop.clients c.settle_step.new.clients (map g.S.BrickStore.records c.args.stores.now) (map g.S.BrickStore.records c.loop.stores) (map g.S.BrickStore.records c.settle_step.new.stores) rest.0 rest.1 rest.2 (rested g.C.Conduct.stands (tabled g.C.Conduct.begins g.C.Conduct.goes) (list_all g.S.BrickStore.told c.args.stores.now ≡ true) (size_of c.args.cluster.now) c.args.cluster.now c.loop.cluster c.args.clients.now c.loop.clients (map g.S.BrickStore.records c.args.stores.now) (map g.S.BrickStore.records c.loop.stores) c.requires.many rest.3 c.loop.invariant.adv))
+    (refl, same_end g.C.Conduct.stands (tabled g.C.Conduct.begins g.C.Conduct.goes) (list_all g.S.BrickStore.told c.args.stores.now ≡ true) (OfEvent (size_of c.args.cluster.now) Settle) c.args.cluster.now c.loop.cluster c.settle_step.new.cluster c.args.clients.now c.loop.clients c.settle_step.new.clients (map g.S.BrickStore.records c.args.stores.now) (map g.S.BrickStore.records c.loop.stores) (map g.S.BrickStore.records c.settle_step.new.stores) rest.0 rest.1 rest.2 (rested g.C.Conduct.stands (tabled g.C.Conduct.begins g.C.Conduct.goes) (list_all g.S.BrickStore.told c.args.stores.now ≡ true) g.met.C.Call.releases (size_of c.args.cluster.now) c.args.cluster.now c.loop.cluster c.args.clients.now c.loop.clients (map g.S.BrickStore.records c.args.stores.now) (map g.S.BrickStore.records c.loop.stores) c.requires.many rest.3 c.loop.invariant.adv))

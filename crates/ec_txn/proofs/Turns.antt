@@ -182,11 +182,14 @@ pub has_place : {P : Type 0} (x : Ctx) (given : Given) (fits : Type 0) (t : Tabl
     → (vec_len known.places ≡ ctx.geometry.n) × (vec_len known.replies.items ≡ ctx.geometry.n) × (b < ctx.geometry.n)
 has_place x given fits t during ctx gfid known stage answer es b w s wait =
     let n : bricks_of given ≡ ctx.geometry.n = size_of x given s.of ∙ sym (ap (λ (z : Ctx). z.geometry.n) s.ctx_is) in
-    let len : vec_len known.places ≡ ctx.geometry.n = s.shows.len ∙ n in
-    (len, s.shows.room ∙ n, elim (cases_lt b ctx.geometry.n) [
-      | inl l ↦ l
-      | inr l ↦ absurd (no_pending w (ap pending (sym wait) ∙ ap (λ (p : Place). p.waits) (sym (s.shows.each b) ∙ past_last known.places.items b (omega (arith, l, len, known.places.ok.0)))))
-    ])
+    let len : vec_len known.places ≡ ctx.geometry.n = s.shows.len ∙ n in (
+      len,
+      s.shows.room ∙ n,
+      elim (cases_lt b ctx.geometry.n) [
+        | inl l ↦ l
+        | inr l ↦ absurd (no_pending w (ap pending (sym wait) ∙ ap (λ (p : Place). p.waits) (sym (s.shows.each b) ∙ past_last known.places.items b (omega (arith, l, len, known.places.ok.0)))))
+      ],
+    )
 
 pub if_both : {A E : Type 0} (r : Result A E) (P : A → Type 0) (Q : Type 0) (R : A → Type 0) → ((a : A) → P a → Q → R a) → IfOk r P → OnOk r Q → IfOk r R
 if_both (Ok a) P Q R f p q = f a p q

@@ -8,3 +8,4 @@ pub mod LogLemmas
 pub mod GoingLemmas
 pub mod EndLemmas
 pub mod ToldLemmas
+pub mod WorldLemmas

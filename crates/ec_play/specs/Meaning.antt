@@ -1,8 +1,8 @@
 -- What a script is played on means to the log of a run, and what it promises of an event.
-use Rattle.std.specs.Prelude.{◌≡◌, ◌↔◌, ℕ, ◌+◌, ◌<◌, ◌≤◌, true, false, List, ◌∷◌, ◌++◌, length, slice_index, Option, Some, None, Result, Ok, Err}
+use Rattle.std.specs.Prelude.{◌≡◌, ℕ, List, ◌++◌, Result, Ok, Err}
 use Rattle.ec_cluster.specs.Matches.{StandsAs}
 use Rattle.ec_history.specs.IsRun.{IsRun}
-use Rattle.ec_history.specs.Run.{Asker, Net, run}
+use Rattle.ec_history.specs.Run.{Net, run}
 use Rattle.ec_history.specs.Script.{IsOfEvent, Step, entries_of}
 use Rattle.ec_store.specs.Records.{Records}
 use Rattle.ec_wire.specs.declared.entry.Entry.{Entry}
@@ -11,10 +11,9 @@ use Rattle.ec_world.specs.declared.refused.Refused.{Refused}
 use Rattle.ec_world.specs.declared.refused.Refused.TheVariants.{NoMemory}
 
 pub record Meaning (W : Type 0) : Type 1 where
-  -- its log, how many bricks it has and how many calls were made
+  -- its log, and how many bricks it has
   pub log : W → List Entry
   pub bricks : W → ℕ
-  pub calls : W → ℕ
   -- what holds of it between two events
   pub keeps : W → Type 0
   -- it and the records of the stores are as a net says
@@ -34,7 +33,6 @@ pub record Does {W : Type 0} (M : Meaning W) (Told : Type 0) (s t : W) (before a
   pub entries : List Entry
   pub goes_on : M.log t ≡ M.log s ++ entries
   pub bricks : M.bricks t ≡ M.bricks s
-  pub calls : M.calls t ≤ M.calls s + 1
   pub keeps : M.keeps t
   pub runs : Told → (m : Net) → M.stands s before m → IsDone (M.bricks s) m event entries × M.stands t after (run entries m)
 

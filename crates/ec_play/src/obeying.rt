@@ -1,5 +1,5 @@
 // One line of a script.
-ghost use Rattle.std.specs.Prelude.{◌≡◌, ◌<◌, ◌≤◌, ◌^◌, ◌-◌, ◌+◌, ℕ, List, Option, Some, Ok, true, length, map, is_some, OnOk, IfErr, IsErrOf};
+ghost use Rattle.std.specs.Prelude.{◌≡◌, ◌≤◌, ℕ, List, Option, Some, Ok, true, length, map, is_some, OnOk, IfErr, IsErrOf};
 ghost use Rattle.std.specs.List.{list_all};
 ghost use Rattle.ec_history.specs.Run.{Net};
 ghost use Rattle.ec_script.specs.Printed.{IsEvent};
@@ -41,12 +41,10 @@ fn obey_event<W: Stage<B, T>, B: BrickStore, T, O: Sink>(
 ) -> Result<(), Stop>
     requires keeps { W.meaning.keeps stage.old }
     requires stores { length stores.old ≡ W.meaning.bricks stage.old }
-    requires calls { W.meaning.calls stage.old < 2 ^ 32 - 1 }
     requires event { IsEvent event.now }
     ensures tells { list_all B.told stores.new ≡ list_all B.told stores.old }
     ensures bricks { W.meaning.bricks stage.new ≡ W.meaning.bricks stage.old }
     ensures keeps { OnOk result (W.meaning.keeps stage.new) }
-    ensures calls { OnOk result (W.meaning.calls stage.new ≤ W.meaning.calls stage.old + 1) }
     ensures ok { OnOk result ((start : Net) (old : Option (List ℕ)) (events : List EventOf)
         → Goes W.meaning (list_all B.told stores.old ≡ true) logs start old events stage.old (map B.records stores.old) (O.written out.old)
         → Obeys W.meaning (list_all B.told stores.old ≡ true) logs start old events (Ok (Some event.now)) stage.new (map B.records stores.new) (O.written out.new)) }
@@ -83,12 +81,10 @@ pub fn obey<W: Stage<B, T>, B: BrickStore, T, O: Sink>(
 ) -> Result<(), Stop>
     requires keeps { W.meaning.keeps stage.old }
     requires stores { length stores.old ≡ W.meaning.bricks stage.old }
-    requires calls { W.meaning.calls stage.old < 2 ^ 32 - 1 }
     requires number { number ≤ MOST_LINES }
     ensures tells { list_all B.told stores.new ≡ list_all B.told stores.old }
     ensures bricks { W.meaning.bricks stage.new ≡ W.meaning.bricks stage.old }
     ensures keeps { OnOk result (W.meaning.keeps stage.new) }
-    ensures calls { OnOk result (W.meaning.calls stage.new ≤ W.meaning.calls stage.old + 1) }
     ensures ok { OnOk result ((start : Net) (old : Option (List ℕ)) (events : List EventOf)
         → Goes W.meaning (list_all B.told stores.old ≡ true) logs start old events stage.old (map B.records stores.old) (O.written out.old)
         → Obeys W.meaning (list_all B.told stores.old ≡ true) logs start old events (line_order number line.now) stage.new (map B.records stores.new) (O.written out.new)) }

@@ -31,7 +31,6 @@ pub fn play<W: Stage<B, T>, B: BrickStore, T, S: Source, O: Sink>(
     requires keeps { W.meaning.keeps stage.old }
     requires stores { length stores.old ≡ W.meaning.bricks stage.old }
     requires log { W.meaning.log stage.old ≡ [] }
-    requires calls { W.meaning.calls stage.old ≡ 0 }
     ensures going { is_refusal result ≡ false }
     ensures tells { list_all B.told stores.new ≡ list_all B.told stores.old }
 

@@ -1,5 +1,5 @@
 // What a script is played on.
-ghost use Rattle.std.specs.Prelude.{◌≡◌, ◌<◌, ◌^◌, ◌-◌, ℕ, List, true, length, map, IfOk};
+ghost use Rattle.std.specs.Prelude.{◌≡◌, ℕ, List, true, length, map, IfOk};
 ghost use Rattle.std.specs.List.{list_all};
 ghost use Rattle.ec_brick.specs.State.{State};
 ghost use Rattle.ec_cluster.specs.Matches.{StandsAs};
@@ -38,7 +38,6 @@ pub trait Stage<B: BrickStore, T>: Means {
     fn step(&mut self, stores: &mut [B], rows: &T, event: &Event) -> Result<(), Refused>
         requires keeps { Self.meaning.keeps self.old }
         requires stores { length stores.old ≡ Self.meaning.bricks self.old }
-        requires calls { Self.meaning.calls self.old < 2 ^ 32 - 1 }
         requires event { IsEvent event.now }
         ensures tells { list_all B.told stores.new ≡ list_all B.told stores.old }
         ensures steps { Steps Self.meaning (list_all B.told stores.old ≡ true) self.old self.new (map B.records stores.old) (map B.records stores.new) event.now result };

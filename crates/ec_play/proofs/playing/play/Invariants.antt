@@ -14,7 +14,6 @@ invariant-lines g l = record {
   keeps : g.W.Means.meaning.keeps l.stage;
   bricks : g.W.Means.meaning.bricks l.stage ≡ g.W.Means.meaning.bricks l.initial.stage;
   stores : length l.stores ≡ g.W.Means.meaning.bricks l.stage;
-  calls : g.W.Means.meaning.calls l.stage + 1 ≤ l.number;
   tells : list_all g.B.BrickStore.told l.stores ≡ list_all g.B.BrickStore.told l.initial.stores;
   read_later : g.S.Source.faults l.initial.script ≤ g.S.Source.faults l.script;
   write_later : g.O.Sink.faults l.initial.out ≤ g.O.Sink.faults l.out;

@@ -1,15 +1,2 @@
-pub mod KnownLemmas
-pub mod LineLemmas
-pub mod SplitLemmas
-pub mod DataLemmas
-pub mod ScriptLemmas
-pub mod RangeLemmas
-pub mod SettleLemmas
-pub mod FileLemmas
-pub mod BrickLemmas
-pub mod WriteLemmas
-pub mod ReadLemmas
-pub mod PlayLemmas
-pub mod RunLemmas
-pub mod EmptyLemmas
 pub mod VolumeLemmas
+pub mod EndsLemmas

@@ -1,5 +1,5 @@
 -- What a run says of its volume file, told or not.
-use Rattle.std.proofs.Common.{◌≡◌, ◌≢◌, ◌<◌, ◌^◌, ℕ, ◌+◌, ◌-◌, ◌++◌, ◌⊎◌, inl, inr, List, Option, Some, None, length, refl, sym, ap, subst, ◌∙◌, append-nil, length-append, arith}
+use Rattle.std.proofs.Common.{◌≡◌, ◌≢◌, ◌<◌, ◌^◌, ℕ, ◌+◌, ◌++◌, ◌⊎◌, inl, inr, List, Option, Some, None, length, refl, sym, ap, subst, ◌∙◌, append-nil, length-append, arith}
 use Rattle.std.specs.Prelude.{IfSome}
 use Rattle.std.specs.Io.KnownBytes.{Consumes, IsAtEnd}
 use Rattle.ec_volfile.specs.declared.fault.VolumeFault.{VolumeFault}
@@ -7,10 +7,6 @@ use Rattle.ec_volfile.specs.declared.fault.VolumeFault.TheVariants as fault
 use Rattle.ec_volfile.specs.Faults.{IsFirstFault, IsFirstFaultOrNoMemory}
 use Rattle.ec_volfile.specs.Grammar.{IsVolumeFile}
 use Rattle.ec_volfile.specs.Outline.{Outline}
-use Rattle.ec_run.specs.declared.status.Status.{Status}
-use Rattle.ec_run.specs.declared.status.Status.TheVariants as status
-use Rattle.ec_run.specs.Run.{Ends}
-use Rattle.ec_run.specs.Volume.{EndsRun}
 use Rattle.ec_run.specs.declared.volume.VolumeError.{VolumeError}
 use Rattle.ec_run.specs.declared.volume.VolumeError.TheVariants.{ReadFault, Refused, NoMemory}
 use Rattle.ec_run.specs.VolumeText.{IsTextOf, IsRefusedFor}
@@ -88,15 +84,3 @@ pub told_both : (left input : Option (List ℕ)) (P R : List ℕ → Type 0) (Q 
 told_both None input P R Q h k make = tt
 told_both (Some file) None P R Q h k make = tt
 told_both (Some file) (Some xs) P R Q h k make = make file xs h k
-
--- the script was obeyed
-pub ends_played : (file : List ℕ) (there : ℕ) (o : Outline) (how : Status) (input : List ℕ) (old new : Option (List ℕ)) (bricks : List (List (List ℕ))) → there ≡ o.n
-    → IsVolumeFile file o → Ends o.n (o.n - o.r) o.algorithm how input old new bricks → EndsRun file there how input old new bricks
-ends_played file there o status.Done input old new bricks same is ends = record { volume = o; described = is; count = same; ends = ends }
-ends_played file there o (status.BadScript line why) input old new bricks same is ends = record { volume = o; described = is; count = same; ends = ends }
-ends_played file there o (status.BadVolume line why) input old new bricks same is ends = absurd ends
-ends_played file there o status.BadWords input old new bricks same is ends = absurd ends
-ends_played file there o status.ReadFault input old new bricks same is ends = inr (record { volume = o; described = is; count = same; ends = ends })
-ends_played file there o status.WriteFault input old new bricks same is ends = record { volume = o; described = is; count = same; ends = ends }
-ends_played file there o (status.WrongBricks why) input old new bricks same is ends = absurd ends
-ends_played file there o status.NoMemory input old new bricks same is ends = inr (record { volume = o; described = is; count = same; ends = ends })

@@ -1,13 +1,4 @@
-pub mod Lines
-pub mod Split
-pub mod Numbers
-pub mod Data
-pub mod Script
-pub mod File
-pub mod Play
-pub mod Player
-pub mod Stripes
-pub mod Run
-pub mod Going
+pub mod Order
 pub mod VolumeText
-pub mod Volume
+pub mod Starts
+pub mod Run

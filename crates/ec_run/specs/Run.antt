@@ -1,72 +1,69 @@
--- What a status says, of a volume of n bricks of which k suffice to read.
-use Rattle.std.specs.Prelude.{◌≡◌, ℕ, ◌+◌, List, [], ◌∷◌, ◌++◌, length, Option, Some, None, codes}
-use Rattle.std.specs.Io.KnownBytes.{Appends}
-use Rattle.ec_run.specs.declared.status.Status.{Status}
-use Rattle.ec_run.specs.declared.status.Status.TheVariants as status
-use Rattle.ec_run.specs.File.{IsCoded}
-use Rattle.ec_run.specs.Lines.{lines}
-use Rattle.ec_store.specs.Causes.{Begins}
-use Rattle.ec_run.specs.Play.{Stepped, nothing_done, steps, step_line, open_text}
+-- What a status says of a run: of its words and its volume file, of the stores of its bricks, of its script, of its log
+-- and of what it has written.
+use Rattle.std.specs.Prelude.{◌≡◌, ◌≢◌, ◌⊎◌, ℕ, Bool, true, false, List, [], Option, Some}
+use Rattle.std.specs.Io.KnownBytes.{Keeps}
+use Rattle.ec_play.specs.Meaning.{Meaning}
+use Rattle.ec_play.specs.declared.status.BricksWhy.TheVariants as wrong
+use Rattle.ec_play.specs.declared.status.Status.{Status}
+use Rattle.ec_play.specs.declared.status.Status.TheVariants as status
+use Rattle.ec_run.specs.Order.{play_order}
+use Rattle.ec_run.specs.Starts.{EndsStarted}
+use Rattle.ec_store.specs.Records.{Records}
+use Rattle.ec_volfile.specs.Faults.{IsFirstFault}
+use Rattle.ec_volfile.specs.Grammar.{IsVolumeFile}
+use Rattle.ec_volfile.specs.Outline.{outline}
+use Rattle.ec_volfile.specs.declared.volume.Volume.{Volume}
+use Rattle.ec_wire.specs.declared.entry.Entry.{Entry}
 
--- the first lines can be obeyed, and give this
-pub record Reached (n k : ℕ) (input : List ℕ) (front rest : List (List ℕ)) (stepped : Stepped) : Type 0 where
-  pub parts : lines input ≡ front ++ rest
-  pub steps : steps n k front nothing_done 1 ≡ Some stepped
+-- the run ended before it opened a store
+abbrev pub is_before_opening : Status → Bool
+is_before_opening status.Done = false
+is_before_opening (status.BadScript line why) = false
+is_before_opening (status.BadVolume line why) = true
+is_before_opening status.BadWords = true
+is_before_opening status.ReadFault = false
+is_before_opening status.WriteFault = false
+is_before_opening (status.WrongBricks (wrong.Count have want)) = true
+is_before_opening (status.WrongBricks (wrong.Config b c)) = false
+is_before_opening (status.WrongBricks (wrong.Head b g)) = false
+is_before_opening (status.StoreFault b) = false
+is_before_opening status.NoMemory = false
 
--- the answers, and the call without an answer
-abbrev pub whole_text : Stepped → List ℕ
-whole_text stepped = stepped.text ++ open_text stepped.state.calls stepped.state.waiting
+-- nothing was written or logged, and the stores are as before
+pub record IsUntouched (before after : List Records) (old new : Option (List ℕ)) (log : List Entry) : Type 0 where
+  pub same : after ≡ before
+  pub text : Keeps old new
+  pub unlogged : log ≡ []
 
--- each line was obeyed, and all is written
-pub record IsWhole (n k algorithm : ℕ) (input : List ℕ) (stepped : Stepped) (old new : Option (List ℕ)) (bricks : List (List (List ℕ))) : Type 0 where
-  pub steps : steps n k (lines input) nothing_done 1 ≡ Some stepped
-  pub text : Appends old new (whole_text stepped)
-  pub coded : IsCoded n k algorithm bricks stepped.state.file
+-- the file describes a volume of another number of bricks
+pub record IsOtherCount (file : List ℕ) (there have want : ℕ) : Type 0 where
+  pub volume : Volume
+  pub described : IsVolumeFile file (outline volume)
+  pub counted : have ≡ there
+  pub wanted : want ≡ volume.geometry.n
+  pub other : there ≢ volume.geometry.n
 
--- the first lines were obeyed, and their answers are written
-pub record IsObeyed (n k algorithm : ℕ) (input : List ℕ) (front rest : List (List ℕ)) (stepped : Stepped) (old new : Option (List ℕ)) (bricks : List (List (List ℕ))) : Type 0 where
-  pub reached : Reached n k input front rest stepped
-  pub text : Appends old new stepped.text
-  pub coded : IsCoded n k algorithm bricks stepped.state.file
+-- The words order a script to be played, and the file describes a volume of as many bricks, over which it was.
+pub record HasRun {W : Type 0} (M : Meaning W) (Told : Type 0) (words : List (List ℕ)) (file : List ℕ) (there : ℕ) (before after : List Records) (how : Status) (input : List ℕ) (old new : Option (List ℕ)) (log : List Entry) : Type 0 where
+  pub logs : Bool
+  pub volume : Volume
+  pub command : play_order words ≡ Some logs
+  pub described : IsVolumeFile file (outline volume)
+  pub count : there ≡ volume.geometry.n
+  pub ends : EndsStarted M Told volume logs before after how input old new log
 
--- the line that follows is the first that can't be obeyed, and this is its number
-pub record IsBad (n k at : ℕ) (front : List (List ℕ)) (line : List ℕ) (stepped : Stepped) : Type 0 where
-  pub number : at ≡ length front + 1
-  pub refused : step_line n k stepped.state at line ≡ None
-
--- the first lines were obeyed, and their text, with the call without an answer, is written from its front on, maybe in part
-pub record IsBroken (n k algorithm : ℕ) (input : List ℕ) (front rest : List (List ℕ)) (stepped : Stepped) (old new : Option (List ℕ)) (bricks : List (List (List ℕ))) : Type 0 where
-  pub reached : Reached n k input front rest stepped
-  pub text : Begins old new (whole_text stepped)
-  pub coded : IsCoded n k algorithm bricks stepped.state.file
-
--- what a run that obeys a script, and has this status, has written, and what the bricks hold
-abbrev pub Ends : ℕ → ℕ → ℕ → Status → List ℕ → Option (List ℕ) → Option (List ℕ) → List (List (List ℕ)) → Type 0
-Ends n k algorithm status.Done input old new bricks = (stepped : Stepped) × IsWhole n k algorithm input stepped old new bricks
-Ends n k algorithm (status.BadScript number why) input old new bricks =
-    (front : List (List ℕ)) × (line : List ℕ) × (rest : List (List ℕ)) × (stepped : Stepped)
-    × IsObeyed n k algorithm input front (line ∷ rest) stepped old new bricks × IsBad n k number front line stepped
-Ends n k algorithm (status.BadVolume line why) input old new bricks = ⊥
-Ends n k algorithm status.BadWords input old new bricks = ⊥
-Ends n k algorithm (status.WrongBricks why) input old new bricks = ⊥
-Ends n k algorithm status.ReadFault input old new bricks =
-    (front : List (List ℕ)) × (rest : List (List ℕ)) × (stepped : Stepped) × IsObeyed n k algorithm input front rest stepped old new bricks
-Ends n k algorithm status.WriteFault input old new bricks =
-    (front : List (List ℕ)) × (rest : List (List ℕ)) × (stepped : Stepped) × IsBroken n k algorithm input front rest stepped old new bricks
-Ends n k algorithm status.NoMemory input old new bricks =
-    (front : List (List ℕ)) × (rest : List (List ℕ)) × (stepped : Stepped) × IsBroken n k algorithm input front rest stepped old new bricks
-
--- the words are exactly `play`
-abbrev pub IsPlay : List (List ℕ) → Type 0
-IsPlay words = words ≡ codes "play" ∷ []
-
--- the number of a status, with which the program ends
-abbrev pub number_of_status : Status → ℕ
-number_of_status status.Done = 0
-number_of_status (status.BadScript line why) = 1
-number_of_status (status.BadVolume line why) = 2
-number_of_status status.BadWords = 3
-number_of_status status.ReadFault = 4
-number_of_status status.WriteFault = 5
-number_of_status (status.WrongBricks why) = 6
-number_of_status status.NoMemory = 8
+-- what a run with this status says
+abbrev pub EndsRun : {W : Type 0} → Meaning W → Type 0 → List (List ℕ) → List ℕ → ℕ → List Records → List Records → Status → List ℕ → Option (List ℕ) → Option (List ℕ) → List Entry → Type 0
+EndsRun M Told words file there before after status.Done input old new log = HasRun M Told words file there before after status.Done input old new log
+EndsRun M Told words file there before after (status.BadScript line why) input old new log = HasRun M Told words file there before after (status.BadScript line why) input old new log
+EndsRun M Told words file there before after (status.BadVolume line why) input old new log = IsFirstFault file line why × IsUntouched before after old new log
+EndsRun M Told words file there before after status.BadWords input old new log = IsUntouched before after old new log
+EndsRun M Told words file there before after status.ReadFault input old new log =
+    IsUntouched before after old new log ⊎ HasRun M Told words file there before after status.ReadFault input old new log
+EndsRun M Told words file there before after status.WriteFault input old new log = HasRun M Told words file there before after status.WriteFault input old new log
+EndsRun M Told words file there before after (status.WrongBricks (wrong.Count have want)) input old new log = IsOtherCount file there have want × IsUntouched before after old new log
+EndsRun M Told words file there before after (status.WrongBricks (wrong.Config b c)) input old new log = HasRun M Told words file there before after (status.WrongBricks (wrong.Config b c)) input old new log
+EndsRun M Told words file there before after (status.WrongBricks (wrong.Head b g)) input old new log = HasRun M Told words file there before after (status.WrongBricks (wrong.Head b g)) input old new log
+EndsRun M Told words file there before after (status.StoreFault b) input old new log = HasRun M Told words file there before after (status.StoreFault b) input old new log
+EndsRun M Told words file there before after status.NoMemory input old new log =
+    IsUntouched before after old new log ⊎ HasRun M Told words file there before after status.NoMemory input old new log

@@ -1,23 +1,16 @@
-// The top call of the volume: a script in, the answers of its calls out.
+// The top call of the volume: words, a volume file and a script in, the text of the script's run out, over the stores
+// of its bricks.
+//
+// Promised, by the status: which of words, volume file, bricks and script was refused and why; that the log is the run
+// of the lines that were obeyed, from what the stores held when they were opened; that its text is what was written, or
+// a front part of it; and what the stores hold, where they tell their records.
 #![tactic(auto)]
 
-mod answers;
-mod brick;
-mod data;
-mod numbers;
-mod obey;
-mod player;
-mod reader;
-mod rows;
-mod script;
-mod settle;
-mod split;
-mod status;
-mod stripes;
+mod order;
+mod playing;
+mod starting;
 mod top;
 mod volume;
-mod writer;
 
-pub use brick::PlainBrick;
-pub use status::{BricksWhy, ScriptWhy, Status};
+pub use ec_play::{BricksWhy, ScriptWhy, Status};
 pub use top::run;

@@ -1,19 +1,20 @@
-use Rattle.std.proofs.Common.{inr}
+use Rattle.std.proofs.Common.{◌≡◌, ◌∙◌, ◌++◌, drop, length, map, refl, sym, take, true, vec_len}
+use Rattle.std.proofs.KnownBytes.{Keeps-refl}
+use Rattle.std.specs.List.{list_all}
+use Rattle.ec_run.proofs.EndsLemmas.{run_counted, run_played, written_back}
 use Rattle.ec_run.proofs.top.run.Goals as goal
 
-pub returns-clause-coded : goal.returns-clause-coded
-returns-clause-coded g c = inr (record {
-  n = c.in-Ok.volume.geometry.n;
-  r = c.in-Ok.volume.geometry.r;
-  algorithm = c.in-Ok.volume.geometry.algorithm;
-  file = c.play.ensures.coded.0;
-  geometry = record {
-    redundant = c.in-Ok.volume.geometry.redundant;
-    majority = c.in-Ok.volume.geometry.majority;
-    least = c.in-Ok.volume.geometry.least;
-    most = c.in-Ok.volume.geometry.most;
-    bricks = c.in-Ok.volume.geometry.bricks;
-    known = c.in-Ok.volume.geometry.known;
-  };
-  coded = c.play.ensures.coded.1;
-})
+pub returns-then-len-from-clause-run : goal.returns-then-len-from-clause-run
+returns-then-len-from-clause-run g c =
+    let records = map g.B.BrickStore.records c.args.bricks.now.items in
+    run_counted c.in-Ok-volume_of.volume (vec_len c.args.bricks.now) c.len-then-len-from.result c.from-then-len-from.result records records (g.V.Source.left c.args.vol.now) (g.S.Source.left c.args.script.now) (g.O.Sink.written c.args.out.now) (g.O.Sink.written c.args.out.now) c.args.log.now
+    c.in-Ok-volume_of.ensures.found c.len-then-len-from.ensures c.from-then-len-from.ensures (λ e. c.if-len-from.true (c.len.ensures ∙ (e ∙ sym c.from.ensures)))
+    (record { same = refl; text = Keeps-refl (g.O.Sink.written c.args.out.now); unlogged = c.requires.empty })
+
+pub returns-clause-run : goal.returns-clause-run
+returns-clause-run g c =
+    let long : length c.start_and_play.new.stores ≡ vec_len c.args.bricks.now = c.start_and_play.auto.stores ∙ c.as_mut_slice.ensures.len in
+    let after = take (vec_len c.args.bricks.now) (c.start_and_play.new.stores ++ drop (length c.start_and_play.new.stores) c.args.bricks.now.items) in
+    let back : after ≡ c.start_and_play.new.stores = written_back c.start_and_play.new.stores (drop (length c.start_and_play.new.stores) c.args.bricks.now.items) (vec_len c.args.bricks.now) long in
+    run_played _ (list_all g.B.BrickStore.told c.args.bricks.now.items ≡ true) (map (λ w. w.now) c.args.words.now) c.in-Ok.logs c.in-Ok-volume_of.volume (vec_len c.args.bricks.now) (map g.B.BrickStore.records c.args.bricks.now.items) (map g.B.BrickStore.records after) (g.V.Source.left c.args.vol.now) (g.S.Source.left c.args.script.now) c.start_and_play.result (g.O.Sink.written c.args.out.now) (g.O.Sink.written c.start_and_play.new.out) c.start_and_play.new.log
+    c.in-Ok.ensures.order (sym c.len.ensures ∙ (c.if-len-from.false ∙ c.from.ensures)) c.in-Ok-volume_of.ensures.found (rw back (rw c.as_mut_slice.ensures.value at c.start_and_play.ensures.ends))

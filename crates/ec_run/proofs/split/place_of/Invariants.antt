@@ -1,6 +1,0 @@
-use Rattle.std.proofs.Common.{◌≡◌, ℕ, ◌<◌, false, get_or}
-use Rattle.std.specs.Prelude.{nat_eq}
-use Rattle.ec_run.proofs.split.place_of.Given as goal
-
-abbrev pub invariant-loop-i : goal.invariant-loop-i
-invariant-loop-i l = (k : ℕ) → k < l.i → nat_eq (get_or l.bytes k 0) l.byte ≡ false

@@ -1,0 +1,43 @@
+use Rattle.std.proofs.Common.{◌≡◌, ◌<◌, ◌∙◌, ℕ, length, map, subst, sym, true}
+use Rattle.std.proofs.KnownBytes.{Keeps-refl}
+use Rattle.std.specs.List.{list_all}
+use Rattle.ec_cluster.specs.Open.{AreUnused, opened}
+use Rattle.ec_run.proofs.EndsLemmas.{are_started, played_from, unopened}
+use Rattle.ec_world.specs.Whole.{config_of}
+use Rattle.ec_run.proofs.starting.start_and_play.Goals as goal
+
+pub returns-in-Err-clause-ends : goal.returns-in-Err-clause-ends
+returns-in-Err-clause-ends g c =
+    let before = map g.B.BrickStore.records c.args.stores.now in
+    let config = config_of c.args.volume.now in
+    rw c.status_of_start.ensures.status
+    (unopened _ (list_all g.B.BrickStore.told c.args.stores.now ≡ true) c.args.volume.now c.args.logs before (map g.B.BrickStore.records c.start.new.stores) (g.S.Source.left c.args.script.now) c.in-Err.brick c.in-Err.fault (g.O.Sink.written c.args.out.now) (g.O.Sink.written c.args.out.now) c.args.log.now
+    (record {
+      there = subst (λ (n : ℕ). c.in-Err.brick < n) c.requires.count c.in-Err.ensures.refused.0;
+      foreign = c.in-Err.ensures.refused.1;
+      first = c.in-Err.ensures.head;
+      part = c.in-Err.ensures.part;
+      kept = λ told. subst (λ (n : ℕ). ¬ (AreUnused config n before) → map g.B.BrickStore.records c.start.new.stores ≡ before) c.requires.count (c.in-Err.ensures.kept told);
+      text = Keeps-refl (g.O.Sink.written c.args.out.now);
+      unlogged = c.requires.empty;
+    }))
+
+pub returns-in-Plain-clause-ends : goal.returns-in-Plain-clause-ends
+returns-in-Plain-clause-ends g c =
+    let before = map g.B.BrickStore.records c.args.stores.now in
+    let started = map g.B.BrickStore.records c.start.new.stores in
+    let config = config_of c.args.volume.now in
+    played_from _ c.args.volume.now c.args.logs before (map g.B.BrickStore.records c.play_world.new.stores) (list_all g.B.BrickStore.told c.start.new.stores) (list_all g.B.BrickStore.told c.args.stores.now) (length c.start.new.stores) started (g.S.Source.left c.args.script.now) c.play_world.result (g.O.Sink.written c.args.out.now) (g.O.Sink.written c.play_world.new.out) c.play_world.new.log
+    c.start.ensures.tells (c.start.auto.stores ∙ c.requires.count)
+    (λ told. are_started config c.args.volume.now.geometry.n (length c.args.stores.now) before started c.requires.count (c.in-Ok.ensures.records told) (c.in-Ok.ensures.roots told) (c.in-Ok.ensures.kept told))
+    (c.play_world.ensures.script (opened config started) (λ told. record { size = c.in-Ok.ensures.open.size; is_as = c.in-Ok.ensures.stands (sym c.start.ensures.tells ∙ told) }))
+
+pub returns-in-Fused-clause-ends : goal.returns-in-Fused-clause-ends
+returns-in-Fused-clause-ends g c =
+    let before = map g.B.BrickStore.records c.args.stores.now in
+    let started = map g.B.BrickStore.records c.start.new.stores in
+    let config = config_of c.args.volume.now in
+    played_from _ c.args.volume.now c.args.logs before (map g.B.BrickStore.records c.play_world-in-Fused.new.stores) (list_all g.B.BrickStore.told c.start.new.stores) (list_all g.B.BrickStore.told c.args.stores.now) (length c.start.new.stores) started (g.S.Source.left c.args.script.now) c.play_world-in-Fused.result (g.O.Sink.written c.args.out.now) (g.O.Sink.written c.play_world-in-Fused.new.out) c.play_world-in-Fused.new.log
+    c.start.ensures.tells (c.start.auto.stores ∙ c.requires.count)
+    (λ told. are_started config c.args.volume.now.geometry.n (length c.args.stores.now) before started c.requires.count (c.in-Ok.ensures.records told) (c.in-Ok.ensures.roots told) (c.in-Ok.ensures.kept told))
+    (c.play_world-in-Fused.ensures.script (opened config started) (λ told. record { size = c.in-Ok.ensures.open.size; is_as = c.in-Ok.ensures.stands (sym c.start.ensures.tells ∙ told) }))

@@ -1,69 +1,31 @@
-// The bricks of the folder that the program runs in.
-ghost use Rattle.std.specs.Prelude.{◌≡◌, vec_len, IfOk};
-ghost use Rattle.ec_run.specs.Volume.{AreEmpty};
-
-use ec_run::PlainBrick;
-use std::alloc::{AllocError, Global};
-use std::path::Path;
+// The brick folders of the folder that the program runs in.
+use ec_folder::FolderStore;
+use std::alloc::AllocError;
+use std::fs;
+use std::io::ErrorKind;
 use std::rt::Files;
 
-/// An empty brick for each brick folder. What the folders hold is not read.
-pub fn bricks_of_folders(rt: &(impl Files + AllocGlobal)) -> Result<Vec<PlainBrick>, AllocError>
-    ensures fresh { IfOk result (λ bricks. AreEmpty bricks.items) }
-{
-    empty_bricks(rt.alloc(), brick_folders(rt)?)
-}
-
-/// How many folders `brick0`, `brick1` and on there are, up to the first that is no folder.
-fn brick_folders(rt: &(impl Files + AllocGlobal)) -> Result<u64, AllocError> {
+/// The stores of the bricks `brick0`, `brick1` and on, up to the first that isn't there. Where one is no folder, its store
+/// fails at its first call.
+pub fn bricks_of_folders<R: Files + AllocGlobal>(
+    rt: &R,
+) -> Result<Vec<FolderStore<&R>>, AllocError> {
+    let mut stores = Vec::new(rt.alloc());
     for number in 0..u64::MAX {
-        let name = format!(in rt.alloc(); "brick{number}")?;
-        if !Path::new(name.as_str()).is_dir(rt) {
-            return Ok(number);
+        let path = format!(in rt.alloc(); "brick{number}")?;
+        if !is_there(rt, path.as_str())? {
+            break;
         }
+        stores.push(FolderStore::open(rt, path.as_str())?)?;
     }
-    Ok(u64::MAX)
+    Ok(stores)
 }
 
-/// So many bricks without a chunk.
-#[tactic(auto, using(crate::proofs::EmptyBricks::one_more_empty))]
-pub fn empty_bricks(alloc: Global, count: u64) -> Result<Vec<PlainBrick>, AllocError>
-    ensures count { IfOk result (λ bricks. vec_len bricks ≡ count) }
-    ensures fresh { IfOk result (λ bricks. AreEmpty bricks.items) }
-{
-    let mut bricks = Vec::new(alloc);
-    for _ in 0..count {
-        bricks.push(PlainBrick::new(alloc))?;
-    }
-    Ok(bricks)
-}
-
-#[cfg(test)]
-mod tests {
-    use super::*;
-    use std::fs;
-    use std::test::Fail;
-
-    fn count(rt: &HostRuntime) -> Result<usize, Fail> {
-        Ok(bricks_of_folders(rt)?.len())
-    }
-
-    #[test]
-    fn counts_to_the_first_that_is_no_folder(rt: HostRuntime) -> Result<(), Fail> {
-        assert_eq!(rt; count(&rt)?, 0);
-        fs::create_dir(&rt, "brick1")?;
-        assert_eq!(rt; count(&rt)?, 0);
-        fs::create_dir(&rt, "brick0")?;
-        assert_eq!(rt; count(&rt)?, 2);
-        fs::create_dir(&rt, "brick3")?;
-        fs::write(&rt, "brick2", "a file")?;
-        assert_eq!(rt; count(&rt)?, 2);
-        fs::remove_file(&rt, "brick2")?;
-        fs::create_dir(&rt, "brick2")?;
-        assert_eq!(rt; count(&rt)?, 4);
-        for name in ["brick0", "brick1", "brick2", "brick3"] {
-            fs::remove_dir(&rt, name)?;
-        }
-        Ok(())
+/// Whether there is anything at a path, a link that leads nowhere among it.
+fn is_there(rt: &impl Files, path: &str) -> Result<bool, AllocError> {
+    match fs::symlink_metadata(rt, path) {
+        Ok(_) => Ok(true),
+        Err(error) if error.kind() == ErrorKind::OutOfMemory => Err(AllocError),
+        Err(_) => Ok(false),
     }
 }

@@ -91,7 +91,7 @@ heals_none (Sweep full) g isnt so = cc
 heals_none op g isnt so = cc
 
 pub no_heal : (c : Account) (b : ℕ) (q : Request) → IsPlain c.given.op → MaySend c b q → (x : Gfid) (kind : LockKind) → q ≡ Ask x Heal kind → ⊥
-no_heal c b q plain may x kind e = heals_none c.given.op x.0 plain.no_heal (subst (MaySend c b) e may).1.heals
+no_heal c b q plain may x kind e = heals_none c.given.op x.0 plain (subst (MaySend c b) e may).1.heals
 
 -- ## What a call begins with stays
 

@@ -1,7 +1,9 @@
 pub mod Allowed
 pub mod Balloting
 pub mod Basics
+pub mod Children
 pub mod Did
+pub mod Directories
 pub mod Early
 pub mod Granting
 pub mod Grants
@@ -11,10 +13,12 @@ pub mod Lasting
 pub mod Later
 pub mod Learning
 pub mod Letting
+pub mod MakerRuns
 pub mod Makes
 pub mod Numbered
 pub mod Onces
 pub mod OrderlyRuns
+pub mod Origins
 pub mod Raising
 pub mod Ready
 pub mod Replies
@@ -28,7 +32,9 @@ pub mod Showing
 pub mod Sorts
 pub mod Steps
 pub mod Still
+pub mod Takes
 pub mod Telling
 pub mod Tracks
 pub mod Turned
 pub mod Windows
+pub mod WorkedChildren

@@ -39,7 +39,7 @@ use Rattle.ec_law_turns.proofs.SentKnown.{BodyKept, once_sent}
 use Rattle.ec_conduct.proofs.Fronts.{front_from}
 use Rattle.ec_history.specs.IsRun.{MaySay}
 use Rattle.ec_law_turns.proofs.Allowed.{account_given}
-use Rattle.ec_law_turns.proofs.Makes.{no_made}
+use Rattle.ec_law_turns.proofs.Makes.{made_there}
 use Rattle.ec_law_turns.proofs.Steps.{EntryKept, executed_same, heard_same, known_entry, made_same, torn_same}
 
 -- ## The conduct, where an entry comes
@@ -92,7 +92,7 @@ module _ (geometry : Geometry) (left : ℕ → Leaving) (none : (a : ℕ) → (l
           let keeps = subst (Keeps given) own all.0 in
           let there = keeps_there (opened given) (b.own msg.call) (Sends msg.brick msg.no q) rest.0 keeps in
           let begun = (k.given_below msg.call given h).1 in
-          (there, ordered_there (opened given) (b.own msg.call) (Sends msg.brick msg.no q) rest.0 (subst (KeepsOrder given) own all.1), no_made given (b.own msg.call) msg.brick q begun.none_kept begun.plain (front_from (opened given) (b.own msg.call) (Sends msg.brick msg.no q ∷ rest.0) keeps) (subst (λ (y : ℕ). msg.brick < y) (sym (ap (λ (y : Given). y.geometry.n) (account_given given (b.own msg.call)) ∙ ap (λ (y : Geometry). y.n) begun.geometry_is)) (subst (λ (z : Body). MaySay geometry.n m msg z) e runs.0.1).to) there)
+          (there, ordered_there (opened given) (b.own msg.call) (Sends msg.brick msg.no q) rest.0 (subst (KeepsOrder given) own all.1), made_there given (b.own msg.call) msg.brick q begun.none_kept begun.plain (front_from (opened given) (b.own msg.call) (Sends msg.brick msg.no q ∷ rest.0) keeps) (subst (λ (y : ℕ). msg.brick < y) (sym (ap (λ (y : Given). y.geometry.n) (account_given given (b.own msg.call)) ∙ ap (λ (y : Geometry). y.n) begun.geometry_is)) (subst (λ (z : Body). MaySay geometry.n m msg z) e runs.0.1).to) there)
   kept_there e es m t b runs plain k kept = tt
 
 -- ## Asks

@@ -12,7 +12,7 @@ use Rattle.ec_wire.specs.declared.message.Body.{Body}
 use Rattle.ec_wire.specs.declared.message.Body.TheVariants.{ToBrick}
 use Rattle.ec_wire.specs.declared.message.Message.{Message}
 use Rattle.ec_wire.specs.declared.request.Request.{Request}
-use Rattle.ec_wire.specs.declared.request.Request.TheVariants.{Ask, Query, PreOp, PostOp, Clear, Made}
+use Rattle.ec_wire.specs.declared.request.Request.TheVariants.{Ask, Query, PreOp, PostOp, Clear}
 use Rattle.ec_conduct.specs.Account.{Account, Dealings, Lock, Place, Wait, begun, gfid_of, released, renewed, sent, with_place}
 use Rattle.ec_conduct.specs.Ballots.{MayClear, MayPreOp}
 use Rattle.ec_conduct.specs.Conduct.{MaySend, is_release}
@@ -43,6 +43,7 @@ use Rattle.ec_law_turns.proofs.Later.{Later, after_later}
 use Rattle.ec_law_turns.proofs.Learning.{by_parts, raised_later}
 use Rattle.ec_law_turns.proofs.Raising.{Raises, raises, told_clear, told_post}
 use Rattle.ec_law_turns.proofs.Sends.{adds, moment_after, of_after, said_after}
+use Rattle.ec_law_turns.proofs.Makes.{MadeThere}
 use Rattle.ec_law_turns.proofs.SentKnown.{BodyKept}
 use Rattle.ec_law_turns.proofs.Sorts.{Sort, Apart, Locks, Looks, Raises as Raised, Unlocks, Works, sort, steps_sent, waits_kept, waits_sent}
 use Rattle.ec_law_turns.proofs.Tracks.{Adds}
@@ -62,7 +63,7 @@ module _ (geometry : Geometry) (g : ℕ) (m : Net) (v : View) (b : Books) (msg :
     abbrev c : Account
     c = account given (b.own msg.call)
 
-    allowed : MaySend c msg.brick q × InOrder c msg.brick q × ((x : Gfid) (n : ℕ) (child : Gfid) → q ≡ Made x n child → ⊥)
+    allowed : MaySend c msg.brick q × InOrder c msg.brick q × MadeThere c q
     allowed = subst (BodyKept m b msg) body kept given is mine
 
     given_is : c.given.geometry ≡ geometry

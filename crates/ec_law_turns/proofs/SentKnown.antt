@@ -2,13 +2,12 @@
 use Rattle.std.proofs.Common.{◌≡◌, ◌≢◌, ◌⊎◌, ℕ, ◌+◌, ◌-◌, ◌^◌, ◌<◌, ◌≤◌, Bool, true, false, cond, ◌==◌, ◌&&◌, Option, Some, None, [], ◌∷◌, ◌++◌, refl, sym, ◌∙◌, ap, subst, arith, inl, inr, ⊎_elim}
 use Rattle.std.specs.Prelude.{unwrap_or}
 use Rattle.ec_attr.specs.declared.geometry.Geometry.{Geometry}
-use Rattle.ec_attr.specs.declared.gfid.Gfid.{Gfid}
 use Rattle.ec_attr.specs.declared.kind.Domain.TheVariants.{Inode}
 use Rattle.ec_wire.specs.declared.message.Body.{Body}
 use Rattle.ec_wire.specs.declared.message.Body.TheVariants.{ToBrick, ToClient}
 use Rattle.ec_wire.specs.declared.message.Message.{Message}
 use Rattle.ec_wire.specs.declared.request.Request.{Request}
-use Rattle.ec_wire.specs.declared.request.Request.TheVariants.{Ask, Made, Release}
+use Rattle.ec_wire.specs.declared.request.Request.TheVariants.{Ask, Release}
 use Rattle.ec_conduct.specs.Account.{Account}
 use Rattle.ec_conduct.specs.Conduct.{MaySend, is_release}
 use Rattle.ec_conduct.specs.Done.{is_lock, is_query, tried}
@@ -27,6 +26,7 @@ use Rattle.ec_law_turns.specs.Follows.{Follows, IsSaid, Messages}
 use Rattle.ec_law_turns.specs.Orderly.{InOrder, IsPlain}
 use Rattle.ec_law_turns.proofs.Allowed.{account_given, free}
 use Rattle.ec_law_turns.proofs.Basics.{differ, equal, has_tried, itself, put_here, put_there, some_is, some_none, wait_of}
+use Rattle.ec_law_turns.proofs.Makes.{MadeThere}
 use Rattle.ec_law_turns.proofs.Numbered.{sender_is}
 use Rattle.ec_law_turns.proofs.Sends.{adds, moment_after, of_after, own_sends, said_after}
 use Rattle.ec_law_turns.proofs.Tracks.{Adds, others_send, request_is}
@@ -40,7 +40,7 @@ less y t x h i = omega (arith, h, i)
 
 -- what a call may send, by its account
 abbrev pub BodyKept : Net → Books → Message → Body → Type 0
-BodyKept m b msg (ToBrick q) = (given : Given) → b.given msg.call ≡ Some given → sender m b msg q ≡ Some msg.call → MaySend (account given (b.own msg.call)) msg.brick q × InOrder (account given (b.own msg.call)) msg.brick q × ((x : Gfid) (n : ℕ) (child : Gfid) → q ≡ Made x n child → ⊥)
+BodyKept m b msg (ToBrick q) = (given : Given) → b.given msg.call ≡ Some given → sender m b msg q ≡ Some msg.call → MaySend (account given (b.own msg.call)) msg.brick q × InOrder (account given (b.own msg.call)) msg.brick q × MadeThere (account given (b.own msg.call)) q
 BodyKept m b msg (ToClient re reply) = Unit {0}
 
 module _ (geometry : Geometry) (g : ℕ) (m : Net) (v : View) (b : Books) (msg : Message) (next_no : msg.no ≡ m.next) (may : MaySay geometry.n m msg msg.body) (k : Known geometry g m v b) where

@@ -4,25 +4,20 @@ use Rattle.std.proofs.lemmas.Bool.Decides.{nat_tests}
 use Rattle.std.specs.Prelude.{unwrap_or}
 use Rattle.ec_attr.specs.declared.geometry.Geometry.{Geometry}
 use Rattle.ec_attr.specs.declared.kind.Domain.TheVariants.{Inode, Heal}
-use Rattle.ec_attr.specs.declared.gfid.Gfid.{Gfid}
 use Rattle.ec_store.specs.Put.{put}
 use Rattle.ec_wire.specs.declared.message.Body.{Body}
 use Rattle.ec_wire.specs.declared.message.Body.TheVariants.{ToBrick, ToClient}
 use Rattle.ec_wire.specs.declared.message.Message.{Message}
-use Rattle.ec_wire.specs.declared.op.Op.{Op}
-use Rattle.ec_wire.specs.declared.op.Op.TheVariants.{Create, Mkdir}
 use Rattle.ec_wire.specs.declared.request.Request.{Request}
-use Rattle.ec_wire.specs.declared.request.Request.TheVariants.{Ask, Release, Query, PreOp, PostOp, Clear, Make, Made, Mark, Unmark}
+use Rattle.ec_wire.specs.declared.request.Request.TheVariants.{Ask, Release, Query, PreOp, PostOp, Clear, Mark, Unmark}
 use Rattle.ec_conduct.specs.Account.{Account, Lock, at}
 use Rattle.ec_conduct.specs.Conduct.{MaySend, is_release}
-use Rattle.ec_conduct.specs.Data.{makes_child}
 use Rattle.ec_conduct.specs.Given.{Given}
 use Rattle.ec_conduct.specs.Opened.{account}
 use Rattle.ec_conduct.specs.Standing.{holds}
 use Rattle.ec_history.specs.Accounts.{Books, sender}
 use Rattle.ec_history.specs.IsRun.{MaySay}
 use Rattle.ec_history.specs.Run.{Net}
-use Rattle.ec_history.specs.Story.{makes_a_child}
 use Rattle.ec_law_base.specs.State.{State}
 use Rattle.ec_law_ballots.specs.Act.{after}
 use Rattle.ec_law_ballots.specs.Act.Act.{Moment}
@@ -49,8 +44,6 @@ module _ (g : ℕ) (said said' : ℕ → Option Message) (of of' : ℕ → ℕ) 
   pub sound_later : (q : Request) → IsSound g said of moment a b i q → IsSound g said' of' moment' a b i q
   sound_later (Ask y Heal kind) h = h
   sound_later (Ask y Inode kind) h = tt
-  sound_later (Make y n child) h = h
-  sound_later (Made y n child) h = h
   sound_later (Mark y n heal head) h = h
   sound_later (Unmark y n at dirty) h = h
   sound_later (Query y n) h = λ on. (names_later n (h on).0, subst (λ (t : ℕ). moment' t ≡ true) (sym (still i x e).1) (grows (of i) (h on).1))
@@ -67,17 +60,12 @@ released : (g : ℕ) (said : ℕ → Option Message) (of : ℕ → ℕ) (moment 
 released g said of moment a b i (Release x n) h = tt
 released g said of moment a b i q h = absurd (cc)
 
-holds_lock : (o : Option Lock) (n : ℕ) → holds o n ≡ true → (l : Lock) × (o ≡ Some l) × (l.number ≡ n)
+pub holds_lock : (o : Option Lock) (n : ℕ) → holds o n ≡ true → (l : Lock) × (o ≡ Some l) × (l.number ≡ n)
 holds_lock None n h = absurd (cc)
 holds_lock (Some l) n h = (l, refl, last l.granted l.number n h)
   where
     last : (t : Bool) (x y : ℕ) → (t && (x == y)) ≡ true → x ≡ y
     last t x y h = grind (arith, nat_tests)
-
-makes_none : (op : Op) (g : ℕ) → makes_a_child op ≡ false → makes_child op g ≡ true → ⊥
-makes_none (Create h name) g isnt so = cc
-makes_none (Mkdir h name) g isnt so = cc
-makes_none op g isnt so = cc
 
 moment_grows : (g : ℕ) (s : State) (a : ℕ) (q : Request) (t : ℕ) → s.moment t ≡ true → (after (acts_sent g s a (ToBrick q)) s).moment t ≡ true
 moment_grows g s a (Query x n) t h = at (x.0 == g) (s.moment a)
@@ -120,18 +108,16 @@ module _ (geometry : Geometry) (g : ℕ) (m : Net) (v : View) (b : Books) (msg :
       shut true u e = absurd (cc)
 
   -- what the conduct gives of the new message
-  newly : (q : Request) → msg.body ≡ ToBrick q → ((x : Gfid) (n : ℕ) (child : Gfid) → q ≡ Made x n child → ⊥) → (c : Account) → IsPlain c.given.op → Follows g m.said v.turn v.of v.core.moment msg.call c → MaySend c msg.brick q → IsSound g (said_after m msg) (of_after g v msg) (moment_after g v msg) msg.call msg.brick msg.no q
-  newly (Ask x Heal kind) e w c plain f h = no_heal c msg.brick (Ask x Heal kind) plain h x kind refl
-  newly (Ask x Inode kind) e w c plain f h = tt
-  newly (Make x n child) e w c plain f h = makes_none c.given.op x.0 plain.no_child h.1.op
-  newly (Made x n child) e w c plain f h = w x n child refl
-  newly (Mark x n heal head) e w c plain f h = λ on. let o = holds_lock (at c x.0 msg.brick).heal heal h.1.heal_held in some_none o.0 (sym o.1 ∙ (ap (λ (y : ℕ). (at c y msg.brick).heal) on ∙ f.unhealed msg.brick))
-  newly (Unmark x n version dirty) e w c plain f h = λ on. let o = holds_lock (at c x.0 msg.brick).heal n h.1.rebuild.heal_held in some_none o.0 (sym o.1 ∙ (ap (λ (y : ℕ). (at c y msg.brick).heal) on ∙ f.unhealed msg.brick))
-  newly (Query x n) e w c plain f h = λ on. (named c f (ap (is_lock_on g) e) x.0 n on h.1.grant_held, ap (moment_after g v msg) (put_here v.of msg.no (turn_of g v msg) msg.no refl) ∙ (ap (λ (z : Body). (after (acts_sent g v.core (turn_of g v msg) z) v.core).moment (turn_of g v msg)) e ∙ moment_come g v.core (turn_of g v msg) x n on))
-  newly (PreOp x n version dirty) e w c plain f h = λ on. (named c f (ap (is_lock_on g) e) x.0 n on h.1.grant_held, let z = h.1.above in omega (arith, z))
-  newly (PostOp x n old new size attr) e w c plain f h = λ on. named c f (ap (is_lock_on g) e) x.0 n on h.1.grant_held
-  newly (Clear x n version) e w c plain f h = λ on. (named c f (ap (is_lock_on g) e) x.0 n on h.1.grant_held, h.1.unmarked)
-  newly q e w c plain f h = tt
+  newly : (q : Request) → msg.body ≡ ToBrick q → (c : Account) → IsPlain c.given.op → Follows g m.said v.turn v.of v.core.moment msg.call c → MaySend c msg.brick q → IsSound g (said_after m msg) (of_after g v msg) (moment_after g v msg) msg.call msg.brick msg.no q
+  newly (Ask x Heal kind) e c plain f h = no_heal c msg.brick (Ask x Heal kind) plain h x kind refl
+  newly (Ask x Inode kind) e c plain f h = tt
+  newly (Mark x n heal head) e c plain f h = λ on. let o = holds_lock (at c x.0 msg.brick).heal heal h.1.heal_held in some_none o.0 (sym o.1 ∙ (ap (λ (y : ℕ). (at c y msg.brick).heal) on ∙ f.unhealed msg.brick))
+  newly (Unmark x n version dirty) e c plain f h = λ on. let o = holds_lock (at c x.0 msg.brick).heal n h.1.rebuild.heal_held in some_none o.0 (sym o.1 ∙ (ap (λ (y : ℕ). (at c y msg.brick).heal) on ∙ f.unhealed msg.brick))
+  newly (Query x n) e c plain f h = λ on. (named c f (ap (is_lock_on g) e) x.0 n on h.1.grant_held, ap (moment_after g v msg) (put_here v.of msg.no (turn_of g v msg) msg.no refl) ∙ (ap (λ (z : Body). (after (acts_sent g v.core (turn_of g v msg) z) v.core).moment (turn_of g v msg)) e ∙ moment_come g v.core (turn_of g v msg) x n on))
+  newly (PreOp x n version dirty) e c plain f h = λ on. (named c f (ap (is_lock_on g) e) x.0 n on h.1.grant_held, let z = h.1.above in omega (arith, z))
+  newly (PostOp x n old new size attr) e c plain f h = λ on. named c f (ap (is_lock_on g) e) x.0 n on h.1.grant_held
+  newly (Clear x n version) e c plain f h = λ on. (named c f (ap (is_lock_on g) e) x.0 n on h.1.grant_held, h.1.unmarked)
+  newly q e c plain f h = tt
 
   -- of the call's own requests: all but a Release
   is_mine : (q : Request) → msg.body ≡ ToBrick q → BodyKept m b msg msg.body → IsSound g (said_after m msg) (of_after g v msg) (moment_after g v msg) msg.call msg.brick msg.no q
@@ -147,7 +133,7 @@ module _ (geometry : Geometry) (g : ℕ) (m : Net) (v : View) (b : Books) (msg :
           let made = k.numbers.made msg.call asker.asker asker.made in
           let allowed = subst (BodyKept m b msg) e kept made.1 made.2 (sends h) in
           let plain = subst (λ (y : Given). IsPlain y.op) (sym (account_given made.1 (b.own msg.call))) (k.numbers.given_below msg.call made.1 made.2).1.plain in
-          newly q e allowed.2 (account made.1 (b.own msg.call)) plain (k.calls msg.call made.1 made.2) allowed.0
+          newly q e (account made.1 (b.own msg.call)) plain (k.calls msg.call made.1 made.2) allowed.0
 
   pub sound_sent : BodyKept m b msg msg.body → AreSound g (said_after m msg) (of_after g v msg) (moment_after g v msg)
   sound_sent kept i x q e body = ⊎_elim (λ h. new h.0 h.1) (λ h. sound_later g m.said (said_after m msg) v.of (of_after g v msg) v.core.moment (moment_after g v msg) more.still (λ t z. moment_grows_by g v.core (turn_of g v msg) msg.body t z) x.call x.brick i x h q (k.sound i x q h body)) (more.newest i x e)

@@ -1,5 +1,5 @@
 -- Logs in which every call keeps the conduct, and three rules of order that the conduct does not state yet.
-use Rattle.std.specs.Prelude.{◌≡◌, ℕ, Bool, true, false, None, Some, List, [], ◌∷◌}
+use Rattle.std.specs.Prelude.{◌≡◌, ◌⊎◌, ℕ, ◌+◌, ◌<◌, ◌≤◌, Bool, true, false, cond, None, Some, List, [], ◌∷◌}
 use Rattle.ec_attr.specs.declared.geometry.Geometry.{Geometry}
 use Rattle.ec_attr.specs.declared.kind.Domain.TheVariants.{Inode}
 use Rattle.ec_attr.specs.declared.kind.LockKind.TheVariants.{Shared}
@@ -50,15 +50,24 @@ KeepsOrder given es = OrderedFrom (opened given) es
 
 -- ## Logs
 
--- no heal, no sweep, and no call that makes a child
-pub record IsPlain (op : Op) : Type 0 where
-  pub no_heal : is_heal op ≡ false
-  pub no_child : makes_a_child op ≡ false
+-- no heal and no sweep
+abbrev pub IsPlain : Op → Type 0
+IsPlain op = is_heal op ≡ false
 
 abbrev pub ArePlain : List Entry → Type 0
 ArePlain [] = Unit {0}
 ArePlain (Called a client op ∷ es) = IsPlain op × ArePlain es
 ArePlain (e ∷ es) = ArePlain es
+
+-- how many children the calls of a log make
+abbrev pub children : List Entry → ℕ
+children [] = 0
+children (Called a client op ∷ es) = cond (makes_a_child op) (1 + children es) (children es)
+children (e ∷ es) = children es
+
+-- Calls take the gfids of their children from `next` on, one after another: this gfid is none of those.
+abbrev pub IsNoChild : ℕ → ℕ → List Entry → Type 0
+IsNoChild g next es = (g < next) ⊎ (next + children es ≤ g)
 
 -- Every call's own entries keep the conduct and its order; no call leaves grants to its client's next one.
 pub record IsOrderly (geometry : Geometry) (es : List Entry) (m : Net) (t : Story) : Type 0 where

@@ -5,7 +5,7 @@ use Rattle.ec_attr.specs.declared.kind.Domain.TheVariants.{Heal}
 use Rattle.ec_wire.specs.declared.message.Body.TheVariants.{ToBrick}
 use Rattle.ec_wire.specs.declared.message.Message.{Message}
 use Rattle.ec_wire.specs.declared.request.Request.{Request}
-use Rattle.ec_wire.specs.declared.request.Request.TheVariants.{Ask, Query, PreOp, PostOp, Clear, Make, Made, Mark, Unmark}
+use Rattle.ec_wire.specs.declared.request.Request.TheVariants.{Ask, Query, PreOp, PostOp, Clear, Mark, Unmark}
 use Rattle.ec_law_turns.specs.Follows.{IsLock}
 
 -- message i of call a to brick b names the lock by ask n, which is of its turn
@@ -14,11 +14,9 @@ pub record Names (g : ℕ) (said : ℕ → Option Message) (of : ℕ → ℕ) (a
   pub turn : of n ≡ of i
   pub begun : 2 ^ 61 ≤ of i
 
--- No Heal lock is asked for, no record is made or marked.
+-- No Heal lock is asked for, and no record is marked.
 abbrev pub IsSound : ℕ → (ℕ → Option Message) → (ℕ → ℕ) → (ℕ → Bool) → ℕ → ℕ → ℕ → Request → Type 0
 IsSound g said of moment a b i (Ask x Heal kind) = ⊥
-IsSound g said of moment a b i (Make x n child) = ⊥
-IsSound g said of moment a b i (Made x n child) = ⊥
 IsSound g said of moment a b i (Mark x n heal head) = x.0 ≡ g → ⊥
 IsSound g said of moment a b i (Unmark x n at dirty) = x.0 ≡ g → ⊥
 IsSound g said of moment a b i (Query x n) = x.0 ≡ g → Names g said of a b i n × (moment (of i) ≡ true)

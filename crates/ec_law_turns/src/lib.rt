@@ -2,22 +2,37 @@
 //
 // `Orderly` says which logs are meant, `Follows` how a call's account stands to the log, `Sound` what follows of each message,
 // `Once` which requests a turn sends a brick once, and `Known` puts the first two together. `Replied` and `Shown` are what
-// bricks told the calls of grants, of heads and of what they did, `Told` what a PreOp, a PostOp and a Clear stand on, and
-// `Laws` what follows of every such log. Nothing of it runs.
+// bricks told the calls of grants, of heads and of what they did, `Told` what a PreOp, a PostOp and a Clear stand on, `Makers`
+// who makes a record, and `Laws` what follows of every such log; `WorkedChildren` is an example. Nothing of it runs.
 #![tactic(auto)]
 
-ghost use Rattle.ec_law_turns.specs.Laws.{OrderlyLaws, TurnLaws};
+ghost use Rattle.ec_law_turns.specs.Laws.{MakerLaws, OrderlyLaws, TurnLaws};
+ghost use Rattle.ec_law_turns.specs.WorkedChildren.{ChildrenAreTwo};
 
-/// In every log that begins with bricks that stand, in which no call heals, sweeps or makes a child, and each call keeps the
-/// conduct in order and leaves no grants: a turn asks each brick once for the content. It does nothing when it runs.
+/// In every log that begins with bricks that stand, in which no call heals or sweeps, and each call keeps the conduct in order
+/// and leaves no grants: a turn asks each brick once for the content. It does nothing when it runs.
 #[tactic(auto, using(crate::proofs::Runs::laws))]
 pub fn turn_laws()
     ensures { TurnLaws }
 {}
 
-/// The laws of versions for every such log: what the calls knew of heads, ballots and PreOps is shown from the conduct and
-/// from what the bricks replied. It does nothing when it runs.
+/// In every such log each Make of a gfid, and each Made, is sent by the call that took the gfid, and names a lock that this
+/// call asked for on the directory in which it makes it; a brick does it only while the call has that directory there; and
+/// the gfid had no version as the log began. It does nothing when it runs.
+#[tactic(auto, using(crate::proofs::MakerRuns::laws))]
+pub fn maker_laws()
+    ensures { MakerLaws }
+{}
+
+/// The laws of versions for every such log, seen from any gfid that is no child which a call of the log makes: what the calls
+/// knew of heads, ballots and PreOps is shown from the conduct and from what the bricks replied. It does nothing when it runs.
 #[tactic(auto, using(crate::proofs::OrderlyRuns::laws))]
 pub fn orderly_laws()
     ensures { OrderlyLaws }
+{}
+
+/// Of a log with a mkdir and a create two gfids are children, and no others. It does nothing when it runs.
+#[tactic(auto, using(crate::proofs::WorkedChildren::children_are_two))]
+pub fn worked_children()
+    ensures { ChildrenAreTwo }
 {}

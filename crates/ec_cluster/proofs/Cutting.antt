@@ -1,5 +1,5 @@
 -- A client is cut off from a brick.
-use Rattle.std.proofs.Common.{◌≡◌, ℕ, ◌<◌, true, Option, Some, None, List, [], ◌∷◌, ◌++◌, length, map, sym, ◌∙◌, ap, subst, append_assoc, append-nil}
+use Rattle.std.proofs.Common.{◌≡◌, ℕ, ◌<◌, true, Option, Some, None, List, [], ◌∷◌, ◌++◌, length, map, refl, sym, ◌∙◌, ap, subst, append_assoc, append-nil}
 use Rattle.std.proofs.lemmas.Option.{slice_get_within}
 use Rattle.std.specs.List.{All}
 use Rattle.std.specs.Prelude.{slice_get}
@@ -88,10 +88,11 @@ module _ (laws : KnownLaws) (s t : Cluster) (client b : ℕ) (old new : Brick) (
           subst (λ (l : List Entry). IsRun (size_of s) (entry ∷ l) m × Owes u records [] (run (entry ∷ l) m)) entries_are ((may_cut records m k, subst (λ n. IsRun n (granted_entries (said_in (log_of t)) b (next_of t) ws) (after m entry)) size_then rest.0), rest.1);
     }
 
-    pub cuts_part : GrantsPart t u b ws → (records : List Records) → Breaks (Unit {0}) s u records records
+    pub cuts_part : GrantsPart t u b ws → (records : List Records) → Breaks (λ e. e ≡ entry) (Unit {0}) s u records records
     cuts_part g records = record {
       entries = entry ∷ g.entries;
       log = longer g.entries g.log;
+      begun = (refl, g.follow);
       runs = λ told m k.
           let rest = g.runs records (after m entry) (owes_cut records m k) in
           ((may_cut records m k, subst (λ n. IsRun n g.entries (after m entry)) size_then rest.0), subst (λ n. StandsAs n records (run g.entries (after m entry))) size_then rest.1);

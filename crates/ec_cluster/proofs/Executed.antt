@@ -38,7 +38,7 @@ use Rattle.ec_cluster.specs.Inner.{Answers, AnswersPart, AsksBrick, IsAnswer, Ow
 use Rattle.ec_cluster.specs.Matches.{IsBrick, Matches, StandsAs}
 use Rattle.ec_cluster.specs.Said.{said_in}
 use Rattle.ec_cluster.specs.Sound.{IsAsked, IsSound}
-use Rattle.ec_cluster.specs.Steps.{Breaks, Executes}
+use Rattle.ec_cluster.specs.Steps.{Breaks, Executes, IsExecution}
 use Rattle.ec_cluster.specs.Views.{bricks_of, can_execute, flight, goes_to_up, is_brick_up, is_up_at, log_of, next_of, places_of, size_of}
 use Rattle.ec_cluster.specs.declared.cluster.Cluster.{Cluster}
 
@@ -203,20 +203,22 @@ module _ (Told : Type 0) (laws : KnownLaws) (s t : Cluster) (wire : Wire) (log :
           subst (λ (l : List Entry). IsRun (size_of s) (entry ∷ l) m × Owes v now [] (run (entry ∷ l) m)) entries_same ((may_execute told m k, subst (λ n. IsRun n (reply_entries (said_in (log_of t)) message (next_of t) e.reply e.granted) (after m entry)) size_then rest.0), rest.1);
     }
 
-    pub breaks : AnswersPart t v message e.reply e.granted → Breaks Told s v before now
+    pub breaks : AnswersPart t v message e.reply e.granted → Breaks (IsExecution num) Told s v before now
     breaks g = record {
       entries = entry ∷ g.entries;
       log = longer g.entries g.log;
+      begun = ((e.version, is_fault e.reply, refl), g.follow);
       runs = λ told m k.
           let rest = g.runs now (out told m k).says (after m entry) (says_what told m k) (owes_then told m k) in
           ((may_execute told m k, subst (λ n. IsRun n g.entries (after m entry)) size_then rest.0), subst (λ n. StandsAs n now (run g.entries (after m entry))) size_then rest.1);
     }
 
 -- nothing was done
-pub unbroken : (Told : Type 0) (s t : Cluster) (before now : List Records) → log_of t ≡ log_of s → (Told → now ≡ before) → Breaks Told s t before now
-unbroken Told s t before now log same = record {
+pub unbroken : (Named : Entry → Type 0) (Told : Type 0) (s t : Cluster) (before now : List Records) → log_of t ≡ log_of s → (Told → now ≡ before) → Breaks Named Told s t before now
+unbroken Named Told s t before now log same = record {
   entries = [];
   log = log ∙ sym (append-nil (log_of s));
+  begun = tt;
   runs = λ told m k. (tt, subst (λ (l : List Records). StandsAs (size_of s) l m) (sym (same told)) (stands (bricks_of s) (flight s) (next_of s) (log_of s) before [] m k));
 }
 

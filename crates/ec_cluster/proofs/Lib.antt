@@ -3,6 +3,7 @@ pub mod Asking
 pub mod Cutting
 pub mod Empty
 pub mod Executed
+pub mod Following
 pub mod LettingIn
 pub mod Matching
 pub mod Moving

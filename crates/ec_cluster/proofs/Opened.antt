@@ -9,7 +9,7 @@ use Rattle.std.specs.Result.{is_err, is_ok}
 use Rattle.ec_attr.specs.declared.config.Config.{Config}
 use Rattle.ec_attr.specs.declared.gfid.Gfid.{Gfid}
 use Rattle.ec_brick.specs.Index.{IndexIs}
-use Rattle.ec_brick.specs.Opening.{IsStartFault, IsTaken, IsUnused, Opens}
+use Rattle.ec_brick.specs.Opening.{AcceptsAll, IsStartFault, IsTaken, IsUnused, Opens}
 use Rattle.ec_brick.specs.State.{fresh, indexed, state}
 use Rattle.ec_brick.specs.declared.brick.Brick.{Brick}
 use Rattle.ec_store.specs.Records.{Record, Records}
@@ -17,7 +17,7 @@ use Rattle.ec_cluster.proofs.Asking.{all_at, all_set, map_set}
 use Rattle.ec_cluster.proofs.Saying.{either, got}
 use Rattle.ec_brick.specs.declared.start_fault.StartFault.{StartFault}
 use Rattle.ec_cluster.proofs.Unused.{after_more, unused_more}
-use Rattle.ec_cluster.specs.Open.{AreOpened, IsAfterTaken, IsFaultOf, IsOpened, IsNextGfid, TellsUnused}
+use Rattle.ec_cluster.specs.Open.{AreAccepted, AreOpened, IsAfterTaken, IsFaultOf, IsOpened, IsNextGfid, TellsUnused}
 
 pub state_of : (k : Brick) (config : Config) → state k (λ g. None) ≡ fresh config → IsOpened config k
 state_of k config e m = (λ i. record { config = (e i).config; records = m; up = (e i).up; asks = (e i).asks; removed = (e i).removed })
@@ -56,6 +56,12 @@ pub taken_below : (config : Config) (r : Records) (last : Option Gfid) (more : �
 taken_below config r None more u two lt g t = (let e = unused_taken config r u g t in omega arith)
 taken_below config r (Some last) more o two lt g t = (let h = o.2 g t in omega arith)
 
+accepted_more : (config : Config) (n : ℕ) (records : List Records) (r : Records) → slice_get records n ≡ Some r → AcceptsAll config r → AreAccepted config n records → AreAccepted config (n + 1) records
+accepted_more config n records r at a h b q lt stored = ⊎_elim
+    (λ (p : b ≡ n). let q_is : r ≡ q = (let w : Some r ≡ Some q = sym at ∙ (ap (slice_get records) (sym p) ∙ stored) in cc) in subst (AcceptsAll config) q_is a)
+    (λ (p : b ≢ n). h b q (omega arith) stored)
+    (either b n)
+
 -- one store more
 module _ {S : Type 0} (told : S → Bool) (records : S → Records) (config : Config) (first stores : List S) (b : ℕ) (x y z : S) (is : slice_get stores b ≡ Some x) (was : slice_get first b ≡ Some z) (tells : list_all told stores ≡ list_all told first) (same : list_all told first ≡ true → map records stores ≡ map records first) (told_same : told y ≡ told x) (kept : told x ≡ true → records y ≡ records x) where
   pub tells_more : list_all told (set stores b y) ≡ list_all told first
@@ -84,6 +90,9 @@ module _ {S : Type 0} (told : S → Bool) (records : S → Records) (config : Co
 
   pub unused_one : (flag : Bool) (last : Option Gfid) → (told x ≡ true → Opens config (records x) last) → (list_all told first ≡ true → TellsUnused config b (map records first) flag) → list_all told first ≡ true → TellsUnused config (b + 1) (map records first) (flag && is_none last)
   unused_one flag last o h t = unused_more config b (map records first) flag (records z) last at_first (subst (λ (r : Records). Opens config r last) (records_same t) (o (told_at t))) (h t)
+
+  pub accepted_one : (told x ≡ true → AcceptsAll config (records x)) → (list_all told first ≡ true → AreAccepted config b (map records first)) → list_all told first ≡ true → AreAccepted config (b + 1) (map records first)
+  accepted_one a h t = accepted_more config b (map records first) (records z) at_first (subst (AcceptsAll config) (records_same t) (a (told_at t))) (h t)
 
   pub fault_one : (fault : StartFault) → (told x ≡ true → IsStartFault config (records x) fault) → list_all told first ≡ true → IsFaultOf config (map records first) (b, fault)
   fault_one fault h t r at = let r_is : r ≡ records z = (let w : Some r ≡ Some (records z) = sym at ∙ at_first in cc) in subst (λ (q : Records). IsStartFault config q fault) (records_same t ∙ sym r_is) (h (told_at t))

@@ -17,6 +17,7 @@ use Rattle.ec_wire.specs.declared.message.Message.{Message}
 use Rattle.ec_wire.specs.declared.reply.Reply.{Reply}
 use Rattle.ec_wire.specs.declared.reply.Reply.TheVariants.{Granted}
 use Rattle.ec_cluster.proofs.Advancing.{matches_as, sound_as}
+use Rattle.ec_cluster.proofs.Following.{granted_follow}
 use Rattle.ec_cluster.proofs.Matching.{matches_reply, may_reply}
 use Rattle.ec_cluster.proofs.Saying.{said_grows}
 use Rattle.ec_cluster.proofs.Soundness.{sound_sent}
@@ -108,6 +109,7 @@ pub granting_part : (s t u : Cluster) (b : ℕ) (ws rest : List Waiter) → Gran
 granting_part s t u b ws rest so k = record {
   entries = granted_entries (said_in (log_of s)) b (next_of s) ws;
   log = k.same_log ∙ so.log;
+  follow = granted_follow (said_in (log_of s)) b (next_of s) ws;
   bricks = k.same_bricks ∙ so.bricks;
   runs = λ records m h. let r = so.runs records m h in (r.0, subst (λ n. StandsAs n records (run (granted_entries (said_in (log_of s)) b (next_of s) ws) m)) (ap (λ (l : List Brick). length l) so.bricks) (stands (bricks_of t) (flight t) (next_of t) (log_of t) records _ _ r.1));
 }
@@ -191,6 +193,7 @@ pub answers_none_part : (s t : Cluster) (q : Message) (ws : List Waiter) → Gra
 answers_none_part s t q ws g = record {
   entries = g.entries;
   log = g.log;
+  follow = g.follow;
   bricks = g.bricks;
   runs = λ records says m r h. g.runs records m (subst (λ (l : List Owed). Owes s records l m) (none_owed q says _ r) h);
 }
@@ -199,6 +202,7 @@ pub answers_unsent : (s t : Cluster) (q : Message) (reply : Option Reply) (ws : 
 answers_unsent s t q reply ws k = record {
   entries = [];
   log = k.same_log ∙ sym (append-nil (log_of s));
+  follow = refl;
   bricks = k.same_bricks;
   runs = λ records says m r h. (tt, stands (bricks_of s) (flight s) (next_of s) (log_of s) records _ m h);
 }
@@ -236,6 +240,7 @@ module _ (s t u : Cluster) (q : Message) (y : Reply) (ws : List Waiter) (sound :
   answers_some_part g = record {
     entries = Sent first ∷ g.entries;
     log = longer g.entries g.log;
+    follow = g.follow;
     bricks = g.bricks ∙ k.bricks;
     runs = λ records says m r h.
         let o = own_runs s t q y ws sound a k records says owed_now m r h in

@@ -1,6 +1,6 @@
 -- What the parts of a cluster promise each other.
 use Rattle.std.specs.Prelude.{◌≡◌, ◌≢◌, ℕ, ◌+◌, ◌<◌, true, Option, Some, None, List, [], ◌++◌, length, map, slice_get, slice_index, IfSome}
-use Rattle.std.specs.List.{All}
+use Rattle.std.specs.List.{All, list_all}
 use Rattle.ec_brick.specs.Fit.{IsFitReply}
 use Rattle.ec_brick.specs.Index.{IndexIs}
 use Rattle.ec_brick.specs.Meets.{Meets, MeetsLocks, failing_of, is_fault}
@@ -13,6 +13,7 @@ use Rattle.ec_brick.specs.declared.effects.Effects.{Effects}
 use Rattle.ec_brick.specs.declared.row.Row.{Row}
 use Rattle.ec_history.specs.IsRun.{IsRun}
 use Rattle.ec_history.specs.Run.{Net, Owed, call_of, own_owed, run}
+use Rattle.ec_history.specs.Script.{is_of_course}
 use Rattle.ec_locks.specs.declared.waiters.Waiter.{Waiter}
 use Rattle.ec_store.specs.Causes.{Rose}
 use Rattle.ec_store.specs.Records.{Records}
@@ -63,6 +64,7 @@ Grants s t b ws = Granting s t b ws []
 pub record GrantsPart (s t : Cluster) (b : ℕ) (ws : List Waiter) : Type 0 where
   pub entries : List Entry
   pub log : log_of t ≡ log_of s ++ entries
+  pub follow : list_all is_of_course entries ≡ true
   pub bricks : bricks_of t ≡ bricks_of s
   pub runs : (records : List Records) (m : Net) → Owes s records (map (owed_to (said_in (log_of s)) b) ws) m → IsRun (size_of s) entries m × StandsAs (size_of s) records (run entries m)
 
@@ -102,5 +104,6 @@ pub record Answers (s t : Cluster) (message : Message) (reply : Option Reply) (w
 pub record AnswersPart (s t : Cluster) (message : Message) (reply : Option Reply) (ws : List Waiter) : Type 0 where
   pub entries : List Entry
   pub log : log_of t ≡ log_of s ++ entries
+  pub follow : list_all is_of_course entries ≡ true
   pub bricks : bricks_of t ≡ bricks_of s
   pub runs : (records : List Records) (says : Says) (m : Net) → Replies says reply → Owes s records (own_owed message says ++ map (owed_to (said_in (log_of s)) message.brick) ws) m → IsRun (size_of s) entries m × StandsAs (size_of s) records (run entries m)

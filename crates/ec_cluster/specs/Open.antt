@@ -2,7 +2,7 @@
 use Rattle.std.specs.Prelude.{◌≡◌, ◌⊎◌, ℕ, ◌+◌, ◌≤◌, ◌<◌, ◌^◌, Bool, true, false, Option, Some, None, List, [], slice_get, slice_index}
 use Rattle.ec_attr.specs.declared.config.Config.{Config}
 use Rattle.ec_brick.specs.Index.{IndexIs}
-use Rattle.ec_brick.specs.Opening.{IsStartFault, IsTaken, IsUnused, rooted}
+use Rattle.ec_brick.specs.Opening.{AcceptsAll, IsStartFault, IsTaken, IsUnused, rooted}
 use Rattle.ec_brick.specs.StartFault.{is_failure}
 use Rattle.ec_brick.specs.State.{State, indexed, state}
 use Rattle.ec_brick.specs.declared.brick.Brick.{Brick}
@@ -41,7 +41,11 @@ IsAfterTaken n records next = (next ≡ 2) ⊎ ((b : ℕ) × (r : Records) × (g
 abbrev pub AreUnused : Config → ℕ → List Records → Type 0
 AreUnused config n records = (b : ℕ) (r : Records) → b < n → slice_get records b ≡ Some r → IsUnused config r
 
--- a flag says whether they are
+-- each head in the first n stores is accepted
+abbrev pub AreAccepted : Config → ℕ → List Records → Type 0
+AreAccepted config n records = (b : ℕ) (r : Records) → b < n → slice_get records b ≡ Some r → AcceptsAll config r
+
+-- a flag says whether the first n stores are unused
 pub record TellsUnused (config : Config) (n : ℕ) (records : List Records) (flag : Bool) : Type 0 where
   pub all : flag ≡ true → AreUnused config n records
   pub some : flag ≡ false → ¬ (AreUnused config n records)

@@ -1,5 +1,6 @@
 -- What a step of a cluster promises.
-use Rattle.std.specs.Prelude.{◌≡◌, ◌≢◌, ℕ, ◌+◌, ◌<◌, ◌^◌, true, false, slice_index, length, Some, None, List, [], ◌∷◌, ◌++◌, slice_get, IfSome}
+use Rattle.std.specs.Prelude.{◌≡◌, ◌≢◌, ℕ, ◌+◌, ◌<◌, ◌^◌, Bool, true, false, slice_index, length, Option, Some, None, List, [], ◌∷◌, ◌++◌, slice_get, IfSome}
+use Rattle.std.specs.List.{list_all}
 use Rattle.ec_brick.specs.Fit.{IsFitReply}
 use Rattle.ec_brick.specs.Meets.{MeetsLocks, is_fault}
 use Rattle.ec_brick.specs.Rows.{fence, row_of}
@@ -10,6 +11,7 @@ use Rattle.ec_brick.specs.declared.effects.Effects.{Effects}
 use Rattle.ec_brick.specs.declared.row.Row.{Row}
 use Rattle.ec_history.specs.IsRun.{IsRun, May}
 use Rattle.ec_history.specs.Run.{Asker, Net, run}
+use Rattle.ec_history.specs.Script.{is_of_course}
 use Rattle.ec_store.specs.Causes.{Rose}
 use Rattle.ec_store.specs.Records.{Records}
 use Rattle.ec_wire.specs.declared.entry.Entry.{Entry}
@@ -42,10 +44,20 @@ pub record Advances (given : Net → Type 0) (s t : Cluster) (es : List Entry) :
 abbrev pub Always : Net → Type 0
 Always m = Unit {0}
 
--- Where there is no memory the log has the entries so far, which are a run, and the stores stand as these say.
-pub record Breaks (Told : Type 0) (s t : Cluster) (before after : List Records) : Type 0 where
+-- the entries so far of a step: none, or the one that it names, and then some that follow from it
+abbrev pub IsBegun : (Entry → Type 0) → List Entry → Type 0
+IsBegun Named [] = Unit {0}
+IsBegun Named (e ∷ es) = Named e × (list_all is_of_course es ≡ true)
+
+-- request i is executed
+abbrev pub IsExecution : ℕ → Entry → Type 0
+IsExecution i e = (version : Option ℕ) × (failed : Bool) × (e ≡ Executed i version failed)
+
+-- Where there is no memory the log has the entries so far of the step, which are a run, and the stores stand as these say.
+pub record Breaks (Named : Entry → Type 0) (Told : Type 0) (s t : Cluster) (before after : List Records) : Type 0 where
   pub entries : List Entry
   pub log : log_of t ≡ log_of s ++ entries
+  pub begun : IsBegun Named entries
   pub runs : Told → (m : Net) → Matches s before m → IsRun (size_of s) entries m × StandsAs (size_of s) after (run entries m)
 
 -- nothing has happened that is seen outside

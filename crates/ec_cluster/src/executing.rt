@@ -5,7 +5,7 @@ ghost use Rattle.ec_brick.specs.Fit.{IsFit};
 ghost use Rattle.ec_brick.specs.Meets.{is_fault};
 ghost use Rattle.ec_cluster.specs.Inner.{Answers, AnswersPart, AsksBrick, IsAnswer};
 ghost use Rattle.ec_cluster.specs.Sound.{IsSound};
-ghost use Rattle.ec_cluster.specs.Steps.{Breaks, Executes};
+ghost use Rattle.ec_cluster.specs.Steps.{Breaks, Executes, IsExecution};
 ghost use Rattle.ec_cluster.specs.Views.{can_execute, is_up_at, size_of};
 
 use crate::cluster::Cluster;
@@ -71,7 +71,7 @@ impl Cluster {
         requires request { can_execute self.old no ≡ true }
         ensures tells { list_all S.told stores.new ≡ list_all S.told stores.old }
         ensures ok { OnOk result (Executes (list_all S.told stores.old ≡ true) self.old self.new (map S.records stores.old) (map S.records stores.new) (map S.faults stores.old) (map S.faults stores.new) no) }
-        ensures err { OnErr result (Breaks (list_all S.told stores.old ≡ true) self.old self.new (map S.records stores.old) (map S.records stores.new)) }
+        ensures err { OnErr result (Breaks (IsExecution no) (list_all S.told stores.old ≡ true) self.old self.new (map S.records stores.old) (map S.records stores.new)) }
     {
         self.log.push(Entry::Executed {
             no,

@@ -2,14 +2,14 @@
 ghost use Rattle.std.specs.Prelude.{◌≡◌, ◌+◌, ◌≤◌, ◌<◌, ◌^◌, ◌⊎◌, None, true, length, map, IfErr, IfOk, IfSome, OnOk};
 ghost use Rattle.std.specs.List.{list_all};
 ghost use Rattle.ec_brick.specs.Index.{IndexIs};
-ghost use Rattle.ec_brick.specs.Opening.{IsForeign, IsStartFault, Opens};
+ghost use Rattle.ec_brick.specs.Opening.{AcceptsAll, IsForeign, IsStartFault, Opens};
 ghost use Rattle.ec_brick.specs.StartFault.{is_of_store, start_failed};
 ghost use Rattle.ec_brick.specs.State.{indexed};
 ghost use Rattle.ec_cluster.specs.Matches.{Matches};
 ghost use Rattle.ec_cluster.specs.Sound.{IsSound};
 ghost use Rattle.ec_history.specs.Run.{fresh};
 ghost use Rattle.ec_store.specs.Does.{HasFaultCause};
-ghost use Rattle.ec_cluster.specs.Open.{AreKept, AreLater, AreOpened, AreRooted, AreUnused, HasRisen, IsAfterTaken, IsEmpty, IsFaultOf, IsNextGfid, IsOpened, TellsUnused, opened};
+ghost use Rattle.ec_cluster.specs.Open.{AreAccepted, AreKept, AreLater, AreOpened, AreRooted, AreUnused, HasRisen, IsAfterTaken, IsEmpty, IsFaultOf, IsNextGfid, IsOpened, TellsUnused, opened};
 ghost use Rattle.ec_cluster.specs.Views.{bricks_of, size_of};
 
 use crate::cluster::Cluster;
@@ -37,6 +37,7 @@ fn open_brick<S: BrickStore>(
     ensures opened { IfOk result (λ o. IsOpened config o.brick) }
     ensures index { IfOk result (λ o. S.told store.old ≡ true → IndexIs (indexed o.brick) (S.records store.old)) }
     ensures last { IfOk result (λ o. S.told store.old ≡ true → Opens config (S.records store.old) o.last) }
+    ensures accepts { OnOk result (S.told store.old ≡ true → AcceptsAll config (S.records store.old)) }
     ensures range { IfOk result (λ o. IfSome o.last (λ g. (0 < g.0) × (g.0 ≤ 2 ^ 96))) }
     ensures refused { IfErr result (λ e. S.told store.old ≡ true → IsStartFault config (S.records store.old) e) }
     ensures foreign { IfErr result (IsForeign config) }
@@ -89,7 +90,9 @@ fn open_all<S: BrickStore>(
     ensures after { IfOk result (λ a. list_all S.told stores.old ≡ true → IsAfterTaken (length stores.old) (map S.records stores.old) a.next) }
     ensures unused { IfOk result (λ a. list_all S.told stores.old ≡ true → TellsUnused config (length stores.old) (map S.records stores.old) a.unused) }
     ensures foreign { IfErr result (λ e. (e.0 < length stores.old) × IsForeign config e.1) }
+    ensures accepted { OnOk result (list_all S.told stores.old ≡ true → AreAccepted config (length stores.old) (map S.records stores.old)) }
     ensures refused { IfErr result (λ e. list_all S.told stores.old ≡ true → IsFaultOf config (map S.records stores.old) e) }
+    ensures first { IfErr result (λ e. list_all S.told stores.old ≡ true → AreAccepted config e.0 (map S.records stores.old)) }
     ensures later { AreLater (map S.faults stores.old) (map S.faults stores.new) }
     ensures cause { IfErr result (HasRisen (map S.faults stores.old) (map S.faults stores.new)) }
 {
@@ -182,8 +185,10 @@ impl Cluster {
         // With `next` the next gfid is the least one from 2 on that is above all that are taken.
         ensures after { IfOk result (λ r. list_all S.told stores.old ≡ true → IsAfterTaken (length stores.old) (map S.records stores.old) r.1) }
 
-        // Which head is refused, and that a store that failed has counted it.
+        // Which head is refused: one of the first store that has such. A store that failed has counted it.
         ensures head { IfErr result (λ e. list_all S.told stores.old ≡ true → IsFaultOf config (map S.records stores.old) e) }
+        ensures first { IfErr result (λ e. list_all S.told stores.old ≡ true → AreAccepted config e.0 (map S.records stores.old)) }
+        ensures accepted { OnOk result (list_all S.told stores.old ≡ true → AreAccepted config (length stores.old) (map S.records stores.old)) }
         ensures cause { IfErr result (HasRisen (map S.faults stores.old) (map S.faults stores.new)) }
     {
         known_laws();

@@ -53,7 +53,7 @@ impl Cluster {
         requires sound { IsSound self.old }
         requires up { is_up_at self.old brick ≡ true }
         ensures ok { OnOk result (Advances Always self.old self.new (Cut client brick ∷ granted_entries (said_in (log_of self.old)) brick (next_of self.old) (granted_by_queue (Client client) (asks_at self.old brick)))) }
-        ensures err { OnErr result ((records : List Records) → Breaks (Unit {0}) self.old self.new records records) }
+        ensures err { OnErr result ((records : List Records) → Breaks (λ e. e ≡ Cut client brick) (Unit {0}) self.old self.new records records) }
     {
         self.log.push(Entry::Cut { client, brick })?;
         known_laws();

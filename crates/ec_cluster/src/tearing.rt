@@ -67,7 +67,7 @@ impl Cluster {
         requires part { IfSome (bytes_at self.old no) (λ n. bytes ≤ n) }
         ensures tells { list_all S.told stores.new ≡ list_all S.told stores.old }
         ensures ok { OnOk result (Tears (list_all S.told stores.old ≡ true) self.old self.new (map S.records stores.old) (map S.records stores.new) (map S.faults stores.old) (map S.faults stores.new) no bytes) }
-        ensures err { OnErr result (Breaks (list_all S.told stores.old ≡ true) self.old self.new (map S.records stores.old) (map S.records stores.new)) }
+        ensures err { OnErr result (Breaks (λ e. ⊥) (list_all S.told stores.old ≡ true) self.old self.new (map S.records stores.old) (map S.records stores.new)) }
         ensures same_log { OnErr result (log_of self.new ≡ log_of self.old) }
         ensures same_records { OnErr result (list_all S.told stores.old ≡ true → map S.records stores.new ≡ map S.records stores.old) }
     {

@@ -5,8 +5,8 @@ use Rattle.std.specs.Prelude.{slice_get}
 use Rattle.std.specs.List.{list_all}
 use Rattle.std.specs.Option.{is_none}
 use Rattle.ec_brick.specs.declared.brick.Brick.{Brick}
-use Rattle.ec_cluster.specs.Open.{AreOpened, IsAfterTaken, TellsUnused}
-use Rattle.ec_cluster.proofs.Opened.{after_one, fault_one, next_one, opened_one, pushed, same_more, tells_more, unused_one}
+use Rattle.ec_cluster.specs.Open.{AreAccepted, AreOpened, IsAfterTaken, TellsUnused}
+use Rattle.ec_cluster.proofs.Opened.{accepted_one, after_one, fault_one, next_one, opened_one, pushed, same_more, tells_more, unused_one}
 use Rattle.ec_cluster.proofs.Risen.{later_more, rest_more, risen}
 use Rattle.ec_cluster.proofs.Unused.{none_is}
 use Rattle.ec_cluster.proofs.opening.open_all.Goals as goal
@@ -65,6 +65,7 @@ loop-b-preserved g c =
       next = next_one g.S.BrickStore.told g.S.BrickStore.records c.args.config c.args.stores.now c.loop-b.stores c.loop-b.b (get_or c.loop-b.stores c.loop-b.b c.index-stores-b.result) c.open_brick.new.store (get_or c.args.stores.now c.loop-b.b c.index-stores-b.result) is was c.loop-b.invariant.tells c.loop-b.invariant.same c.open_brick.ensures.tells c.open_brick.ensures.same c.loop-b.next c.next_after-next.result c.in-Ok.opened.last c.loop-b.invariant.next c.next_after-next.ensures.grows c.next_after-next.ensures.most c.next_after-next.ensures.above c.in-Ok.ensures.last;
       after = after_one g.S.BrickStore.told g.S.BrickStore.records c.args.config c.args.stores.now c.loop-b.stores c.loop-b.b (get_or c.loop-b.stores c.loop-b.b c.index-stores-b.result) c.open_brick.new.store (get_or c.args.stores.now c.loop-b.b c.index-stores-b.result) is was c.loop-b.invariant.tells c.loop-b.invariant.same c.open_brick.ensures.tells c.open_brick.ensures.same c.loop-b.next c.next_after-next.result c.in-Ok.opened.last c.in-Ok.ensures.last c.next_after-next.ensures.none c.next_after-next.ensures.least c.loop-b.invariant.after;
       unused = λ told. subst (TellsUnused c.args.config (c.loop-b.b + 1) (map g.S.BrickStore.records c.args.stores.now)) (sym flag) (unused_one g.S.BrickStore.told g.S.BrickStore.records c.args.config c.args.stores.now c.loop-b.stores c.loop-b.b (get_or c.loop-b.stores c.loop-b.b c.index-stores-b.result) c.open_brick.new.store (get_or c.args.stores.now c.loop-b.b c.index-stores-b.result) is was c.loop-b.invariant.tells c.loop-b.invariant.same c.open_brick.ensures.tells c.open_brick.ensures.same c.loop-b.unused c.in-Ok.opened.last c.in-Ok.ensures.last c.loop-b.invariant.unused told);
+      accepted = accepted_one g.S.BrickStore.told g.S.BrickStore.records c.args.config c.args.stores.now c.loop-b.stores c.loop-b.b (get_or c.loop-b.stores c.loop-b.b c.index-stores-b.result) c.open_brick.new.store (get_or c.args.stores.now c.loop-b.b c.index-stores-b.result) is was c.loop-b.invariant.tells c.loop-b.invariant.same c.open_brick.ensures.tells c.open_brick.ensures.same c.in-Ok.ensures.accepts c.loop-b.invariant.accepted;
       rest = rest_more g.S.BrickStore.faults c.args.stores.now c.loop-b.stores c.loop-b.b (get_or c.loop-b.stores c.loop-b.b c.index-stores-b.result) c.open_brick.new.store is c.loop-b.invariant.rest;
       later = later_more g.S.BrickStore.faults c.args.stores.now c.loop-b.stores c.loop-b.b (get_or c.loop-b.stores c.loop-b.b c.index-stores-b.result) c.open_brick.new.store is c.open_brick.ensures.cause.later c.loop-b.invariant.later;
     }
@@ -107,3 +108,6 @@ returns-then-is_err-clause-later g c =
 
 pub returns-clause-after : goal.returns-clause-after
 returns-clause-after g c = λ told. let e : c.loop-b.b ≡ length c.args.stores.now = omega (arith, c.loop-b-test.false, c.loop-b.auto.b-end) in subst (λ n. IsAfterTaken n (map g.S.BrickStore.records c.args.stores.now) c.loop-b.next) e (c.loop-b.invariant.after told)
+
+pub returns-clause-accepted : goal.returns-clause-accepted
+returns-clause-accepted g c = λ told. let e : c.loop-b.b ≡ length c.args.stores.now = omega (arith, c.loop-b-test.false, c.loop-b.auto.b-end) in subst (λ n. AreAccepted c.args.config n (map g.S.BrickStore.records c.args.stores.now)) e (c.loop-b.invariant.accepted told)

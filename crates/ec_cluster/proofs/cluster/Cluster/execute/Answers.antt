@@ -8,11 +8,12 @@ use Rattle.ec_cluster.proofs.Advancing.{on_ok}
 use Rattle.ec_cluster.proofs.Executed.{breaks, execute_up, executes, is_answer, sound_then, unbroken}
 use Rattle.ec_cluster.proofs.Waiters.{err_any}
 use Rattle.ec_cluster.proofs.cluster.Cluster.execute.Goals as goal
+use Rattle.ec_cluster.specs.Steps.{IsExecution}
 use Rattle.ec_cluster.specs.Views.{flight}
 use Rattle.ec_cluster.specs.declared.cluster.Cluster.{Cluster}
 
 pub returns-in_err-push-clause-err : goal.returns-in_err-push-clause-err
-returns-in_err-push-clause-err g c = err_any c.from_residual.result _ (unbroken (list_all g.S.BrickStore.told c.args.stores.now ≡ true) c.args.self.now (record c.args.self.now { log = c.push.new.self }) (map g.S.BrickStore.records c.args.stores.now) (map g.S.BrickStore.records c.args.stores.now) c.in_err-push.ensures.err (λ told. refl))
+returns-in_err-push-clause-err g c = err_any c.from_residual.result _ (unbroken (IsExecution c.args.no) (list_all g.S.BrickStore.told c.args.stores.now ≡ true) c.args.self.now (record c.args.self.now { log = c.push.new.self }) (map g.S.BrickStore.records c.args.stores.now) (map g.S.BrickStore.records c.args.stores.now) c.in_err-push.ensures.err (λ told. refl))
 
 pub answer-requires-clause-sound : goal.answer-requires-clause-sound
 answer-requires-clause-sound g c =
@@ -45,4 +46,4 @@ returns-in-Ok-clause-err g c =
 pub returns-clause-err : goal.returns-clause-err
 returns-clause-err g c =
     let placed : c.ask_brick.new.self.log ≡ c.args.self.now.log ++ Executed c.args.no None false ∷ [] = ap (λ (x : Cluster). x.log) c.in-Err.ensures.kept ∙ c.in_ok-push.ensures.ok in
-    unbroken (list_all g.S.BrickStore.told c.args.stores.now ≡ true) c.args.self.now (record c.ask_brick.new.self { log = c.drop_last.new.self }) (map g.S.BrickStore.records c.args.stores.now) (map g.S.BrickStore.records c.ask_brick.new.stores) (c.drop_last.ensures c.args.self.now.log (Executed c.args.no None false) placed) c.in-Err.ensures.err
+    unbroken (IsExecution c.args.no) (list_all g.S.BrickStore.told c.args.stores.now ≡ true) c.args.self.now (record c.ask_brick.new.self { log = c.drop_last.new.self }) (map g.S.BrickStore.records c.args.stores.now) (map g.S.BrickStore.records c.ask_brick.new.stores) (c.drop_last.ensures c.args.self.now.log (Executed c.args.no None false) placed) c.in-Err.ensures.err

@@ -1,5 +1,5 @@
 -- A cluster at its beginning.
-use Rattle.std.proofs.Common.{◌≡◌, ◌∙◌, true, length, map, sym}
+use Rattle.std.proofs.Common.{arith, ◌<◌, ◌≡◌, ◌∙◌, true, length, map, sym}
 use Rattle.std.proofs.lemmas.List.{length-map}
 use Rattle.std.specs.List.{list_all}
 use Rattle.ec_cluster.proofs.Empty.{empty_matches, empty_sound, opened_as}
@@ -33,3 +33,9 @@ returns-in-Err-put_roots-clause-kept g c = λ told used. absurd (used ((c.in-Ok.
 
 pub returns-in-Err-put_roots-clause-cause : goal.returns-in-Err-put_roots-clause-cause
 returns-in-Err-put_roots-clause-cause g c = risen_before (map g.S.BrickStore.faults c.args.stores.now) (map g.S.BrickStore.faults c.open_all.new.stores) (map g.S.BrickStore.faults c.put_roots.new.stores) c.in-Err-put_roots.e c.open_all.ensures.later c.in-Err-put_roots.ensures.cause
+
+pub returns-in-Err-put_roots-clause-first : goal.returns-in-Err-put_roots-clause-first
+returns-in-Err-put_roots-clause-first g c = λ told b r lt at.
+    let n : length c.open_all.new.stores ≡ length c.args.stores.now = c.open_all.auto.stores in
+    let low : c.in-Err-put_roots.e.0 < length c.open_all.new.stores = c.in-Err-put_roots.ensures.refused.0 in
+    c.in-Ok.ensures.accepted told b r (omega (arith, lt, low, n)) at

@@ -14,7 +14,7 @@ use Rattle.ec_cluster.specs.Views.{flight}
 use Rattle.ec_cluster.specs.declared.cluster.Cluster.{Cluster}
 
 pub returns-in_err-push-clause-err : goal.returns-in_err-push-clause-err
-returns-in_err-push-clause-err g c = err_any c.from_residual.result _ (unbroken (list_all g.S.BrickStore.told c.args.stores.now ≡ true) c.args.self.now (record c.args.self.now { log = c.push.new.self }) (map g.S.BrickStore.records c.args.stores.now) (map g.S.BrickStore.records c.args.stores.now) c.in_err-push.ensures.err (λ told. refl))
+returns-in_err-push-clause-err g c = err_any c.from_residual.result _ (unbroken (λ e. ⊥) (list_all g.S.BrickStore.told c.args.stores.now ≡ true) c.args.self.now (record c.args.self.now { log = c.push.new.self }) (map g.S.BrickStore.records c.args.stores.now) (map g.S.BrickStore.records c.args.stores.now) c.in_err-push.ensures.err (λ told. refl))
 
 pub returns-in-Ok-clause-ok : goal.returns-in-Ok-clause-ok
 returns-in-Ok-clause-ok g c =
@@ -29,4 +29,4 @@ returns-in-Ok-clause-ok g c =
 pub returns-clause-err : goal.returns-clause-err
 returns-clause-err g c =
     let placed : c.tear_brick.new.self.log ≡ c.args.self.now.log ++ Torn c.args.no c.args.bytes None ∷ [] = ap (λ (x : Cluster). x.log) c.in-Err.ensures.kept ∙ c.in_ok-push.ensures.ok in
-    unbroken (list_all g.S.BrickStore.told c.args.stores.now ≡ true) c.args.self.now (record c.tear_brick.new.self { log = c.drop_last.new.self }) (map g.S.BrickStore.records c.args.stores.now) (map g.S.BrickStore.records c.tear_brick.new.stores) (c.drop_last.ensures c.args.self.now.log (Torn c.args.no c.args.bytes None) placed) c.in-Err.ensures.err
+    unbroken (λ e. ⊥) (list_all g.S.BrickStore.told c.args.stores.now ≡ true) c.args.self.now (record c.tear_brick.new.self { log = c.drop_last.new.self }) (map g.S.BrickStore.records c.args.stores.now) (map g.S.BrickStore.records c.tear_brick.new.stores) (c.drop_last.ensures c.args.self.now.log (Torn c.args.no c.args.bytes None) placed) c.in-Err.ensures.err

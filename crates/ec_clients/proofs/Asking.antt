@@ -1,21 +1,21 @@
 -- What becomes of the asks that a call sent: each stands, or is released.
-use Rattle.std.proofs.Common.{◌≡◌, ◌⊎◌, inl, inr, ⊎_elim, ℕ, ◌+◌, ◌<◌, Bool, true, false, cond, ◌==◌, Option, Some, None, List, [], ◌∷◌, ◌++◌, length, refl, sym, ◌∙◌, ap, subst, arith, eqb-true}
+use Rattle.std.proofs.Common.{◌≡◌, ◌⊎◌, inl, inr, ⊎_elim, ℕ, ◌+◌, Bool, true, false, cond, ◌==◌, Option, Some, None, List, [], ◌∷◌, length, refl, sym, ◌∙◌, ap, subst, arith, eqb-true}
 use Rattle.std.specs.List.{Contains}
 use Rattle.std.proofs.lemmas.Bool.{cases_Bool}
-use Rattle.std.proofs.lemmas.List.Elements.{Contains-append_cases, Contains-append_right, Contains-push, Contains-push_cases}
+use Rattle.std.proofs.lemmas.List.Elements.{Contains-append_cases, Contains-append_right, Contains-push_cases}
 use Rattle.ec_attr.specs.declared.gfid.Gfid.{Gfid}
 use Rattle.ec_attr.specs.declared.kind.Domain.{Domain}
 use Rattle.ec_attr.specs.declared.kind.Domain.TheVariants.{Inode, Heal}
 use Rattle.ec_attr.specs.declared.kind.LockKind.{LockKind}
 use Rattle.ec_store.specs.Put.{put}
-use Rattle.ec_conduct.specs.Account.{Account, Dealings, Exchange, Lock, Place, Wait, account_from, after, asked, at, begun, filed, gave_up, gfid_of, granted, heard_by, left_by, noted, over, released, sent, told, waiting, with_dealings, with_place, without}
+use Rattle.ec_conduct.specs.Account.{Account, Dealings, Exchange, Lock, Place, Wait, account_from, after, asked, at, begun, filed, gave_up, gfid_of, granted, heard_by, left_by, noted, over, released, sent, told, with_place, without}
 use Rattle.ec_conduct.specs.Conduct.{KeepsFrom, May, MaySend}
 use Rattle.ec_conduct.specs.Locks.{MayAsk}
 use Rattle.ec_conduct.specs.Own.{Own, Answers, GivesUp, Hears, Sends}
 use Rattle.ec_wire.specs.declared.reply.Reply.{Reply}
 use Rattle.ec_wire.specs.declared.request.Request.{Request}
 use Rattle.ec_wire.specs.declared.request.Request.TheVariants.{Ask, Release, Query, PreOp, ReadChunks, WriteChunks, SetLength, PostOp, Clear, NameGet, NamesAfter, NameSet, NamesPut, Make, Made, Unmake, Mark, Unmark, GfidsAfter}
-use Rattle.ec_clients.proofs.Places.{put_here, put_is, some_is}
+use Rattle.ec_clients.proofs.Places.{put_here, put_is}
 
 -- the ask that isn't released
 abbrev pub lock_of : Domain → Place → Option Lock

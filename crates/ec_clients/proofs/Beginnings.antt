@@ -1,10 +1,8 @@
 -- A call begins.
-use Rattle.std.proofs.Common.{◌≡◌, ℕ, ◌+◌, ◌<◌, Bool, true, false, cond, Option, Some, None, List, [], ◌∷◌, ◌++◌, refl, sym, ◌∙◌, ap, subst, arith}
+use Rattle.std.proofs.Common.{◌≡◌, ℕ, ◌+◌, ◌<◌, false, cond, Option, Some, None, List, [], ◌∷◌, ◌++◌, refl, sym, ◌∙◌, ap, subst, arith}
 use Rattle.std.specs.Prelude.{All}
-use Rattle.ec_brick.specs.Fit.{IsFit}
-use Rattle.ec_store.specs.Put.{put}
 use Rattle.ec_cluster.specs.Said.{said_in}
-use Rattle.ec_cluster.specs.Steps.{Advances as ClusterAdvances, IsAllowed}
+use Rattle.ec_cluster.specs.Steps.{Advances as ClusterAdvances, IsAllowed, IsBegun}
 use Rattle.ec_cluster.specs.Views.{log_of, next_of, size_of}
 use Rattle.ec_cluster.specs.declared.cluster.Cluster.{Cluster}
 use Rattle.ec_conduct.specs.Account.{Account, account_from, sent}
@@ -24,14 +22,14 @@ use Rattle.ec_wire.specs.declared.op.Op.{Op}
 use Rattle.ec_wire.specs.declared.request.Request.{Request}
 use Rattle.ec_wire.specs.declared.request.Request.TheVariants.{Ask, Release, Query, PreOp, ReadChunks, WriteChunks, SetLength, PostOp, Clear, NameGet, NamesAfter, NameSet, NamesPut, Make, Made, Unmake, Mark, Unmark, GfidsAfter}
 use Rattle.ec_clients.specs.Calls.{IsUnmade, OfClients, begun_with, ctx_of}
-use Rattle.ec_clients.specs.Come.{Come, come, come_after}
+use Rattle.ec_clients.specs.Come.{Come, come_after}
 use Rattle.ec_clients.specs.Going.{Going, answer_entries, sent_entries}
 use Rattle.ec_clients.specs.Ledger.{ledger}
-use Rattle.ec_clients.specs.Steps.{Breaks, Goes, Seen}
+use Rattle.ec_clients.specs.Steps.{AreOfCourse, Breaks, Goes, Seen}
 use Rattle.ec_clients.specs.Views.{is_dead_at, slots_of}
 use Rattle.ec_clients.specs.declared.clients.Clients.{Clients}
 use Rattle.ec_clients.proofs.Entries.{calls_begin, gfid_is, given_is}
-use Rattle.ec_clients.proofs.Goings.{goes_off, goes_on, said_append, stands_now}
+use Rattle.ec_clients.proofs.Goings.{goes_off, goes_on, said_append}
 use Rattle.ec_clients.proofs.Places.{begins_out, put_here}
 
 -- the answer in an account
@@ -135,8 +133,8 @@ module _ {C : Type 0} (stands : Ctx → Given → C → List Own → Type 0) (by
   pub begins_then : (u : Cluster) (e : Clients C) (fs : List Entry) → Goes d.options.geometry (Going stands by_table t d (c.calls + 1) j call sends answer) (Seen stands by_table u e None) t u fs → Goes c.options.geometry (Seen stands by_table s c None) (Seen stands by_table u e None) s u (Called (c.calls + 1) j op ∷ fs)
   begins_then u e fs g = goes_on c.options.geometry (Seen stands by_table s c None) (Going stands by_table t d (c.calls + 1) j call sends answer) (Seen stands by_table u e None) s t u (Called (c.calls + 1) j op ∷ []) fs begins_goes (subst (λ (z : Clients C). Goes z.options.geometry (Going stands by_table t d (c.calls + 1) j call sends answer) (Seen stands by_table u e None) t u fs) same g)
 
-  pub begins_off : (u : Cluster) → Breaks d.options.geometry (Going stands by_table t d (c.calls + 1) j call sends answer) t u → Breaks c.options.geometry (Seen stands by_table s c None) s u
-  begins_off u g = goes_off c.options.geometry (Seen stands by_table s c None) (Going stands by_table t d (c.calls + 1) j call sends answer) s t u (Called (c.calls + 1) j op ∷ []) begins_goes (subst (λ (z : Clients C). Breaks z.options.geometry (Going stands by_table t d (c.calls + 1) j call sends answer) t u) same g)
+  pub begins_off : (u : Cluster) → Breaks d.options.geometry AreOfCourse (Going stands by_table t d (c.calls + 1) j call sends answer) t u → Breaks c.options.geometry (IsBegun (λ e. e ≡ Called (c.calls + 1) j op)) (Seen stands by_table s c None) s u
+  begins_off u g = goes_off c.options.geometry (Seen stands by_table s c None) (Going stands by_table t d (c.calls + 1) j call sends answer) s t u (Called (c.calls + 1) j op ∷ []) AreOfCourse (IsBegun (λ e. e ≡ Called (c.calls + 1) j op)) (λ fs k. (refl, k)) begins_goes (subst (λ (z : Clients C). Breaks z.options.geometry AreOfCourse (Going stands by_table t d (c.calls + 1) j call sends answer) t u) same g)
 
   pub begins_below : size_of s ≡ c.options.geometry.n → All (λ (x : Send). x.0 < size_of t) sends
   begins_below size = subst (λ (n : ℕ). All (λ (x : Send). x.0 < n) sends) (sym (adv.size ∙ size)) adds.below

@@ -14,7 +14,7 @@ use Rattle.ec_conduct.specs.Given.{Given}
 use Rattle.ec_conduct.specs.Own.{Own, Answers, GivesUp, Hears, Sends}
 use Rattle.ec_conduct.specs.Table.{Send}
 use Rattle.ec_history.specs.Accounts.{Books, hears, hears_body, own_of, sender, sends, with_own}
-use Rattle.ec_history.specs.Run.{Asker, Net, call_of, executed, executed_by, heard, heard_by, is_number, let_go_after, torn_by, torn_off}
+use Rattle.ec_history.specs.Run.{Net, call_of, executed, executed_by, heard, heard_by, is_number, let_go_after, torn_by, torn_off}
 use Rattle.ec_txn.specs.declared.ctx.Ctx.{Ctx}
 use Rattle.ec_wire.specs.declared.answer.Answer.{Answer}
 use Rattle.ec_wire.specs.declared.entry.Entry.{Entry}

@@ -1,25 +1,24 @@
 -- What each entry of calls and clients makes of the ledger.
-use Rattle.std.proofs.Common.{◌≡◌, ◌≢◌, ◌⊎◌, inl, inr, ⊎_elim, ℕ, ◌+◌, ◌<◌, Bool, true, false, not, cond, ◌==◌, ◌&&◌, Option, Some, None, List, [], ◌∷◌, ◌++◌, refl, sym, ◌∙◌, ap, subst, arith, eqb-true, eq-eqb}
+use Rattle.std.proofs.Common.{◌≡◌, ◌≢◌, ◌⊎◌, inl, inr, ⊎_elim, ℕ, ◌+◌, Bool, true, false, not, cond, ◌==◌, ◌&&◌, Option, Some, None, List, [], ◌∷◌, ◌++◌, refl, sym, ◌∙◌, ap, subst, arith, eqb-true, eq-eqb}
 use Rattle.std.proofs.lemmas.Bool.Decides.{nat_tests}
 use Rattle.ec_attr.specs.declared.geometry.Geometry.{Geometry}
 use Rattle.ec_attr.specs.declared.gfid.Gfid.{Gfid}
 use Rattle.std.specs.Prelude.{is_some}
 use Rattle.ec_store.specs.Put.{put}
 use Rattle.ec_wire.specs.declared.answer.Answer.{Answer}
-use Rattle.ec_wire.specs.declared.entry.Entry.TheVariants.{Called, Sent, Heard, GivenUp, Answered, Died}
+use Rattle.ec_wire.specs.declared.entry.Entry.TheVariants.{Called, Sent, GivenUp, Answered}
 use Rattle.ec_wire.specs.declared.message.Body.TheVariants.{ToBrick, ToClient}
 use Rattle.ec_wire.specs.declared.message.Message.{Message}
 use Rattle.ec_wire.specs.declared.op.Op.{Op}
 use Rattle.ec_wire.specs.declared.reply.Reply.{Reply}
-use Rattle.ec_wire.specs.declared.reply.Reply.TheVariants.{Granted}
 use Rattle.ec_wire.specs.declared.request.Request.{Request}
 use Rattle.ec_wire.specs.declared.request.Request.TheVariants.{Ask, Release, Query, PreOp, ReadChunks, WriteChunks, SetLength, PostOp, Clear, NameGet, NamesAfter, NameSet, NamesPut, Make, Made, Unmake, Mark, Unmark, GfidsAfter}
 use Rattle.ec_conduct.specs.Account.{Account, Wait, sent}
 use Rattle.ec_conduct.specs.Conduct.{Keeps}
 use Rattle.ec_conduct.specs.Opened.{account}
 use Rattle.ec_conduct.specs.Own.{Own, Sends, Hears, GivesUp, Answers}
-use Rattle.ec_history.specs.Accounts.{Books, client_of, hears, hears_body, is_at_once, is_write, own_of, sender, taken_over, under_kept, with_own}
-use Rattle.ec_history.specs.Run.{Asker, Net, awaits_after, call_of, heard, heard_by, is_number, let_go_after, put2}
+use Rattle.ec_history.specs.Accounts.{Books, client_of, hears, is_at_once, is_write, own_of, sender, taken_over, under_kept, with_own}
+use Rattle.ec_history.specs.Run.{Asker, Net, call_of, heard, is_number, let_go_after, put2}
 use Rattle.ec_history.specs.Story.{found_by, makes_a_child, op_of}
 use Rattle.ec_txn.specs.Steps.{number_of}
 use Rattle.ec_clients.specs.Calls.{IsMade, IsUnmade, OfCalls, Waits, begun_with, request_message}

@@ -1,52 +1,37 @@
 -- A call comes back to its slot, or is answered.
-use Rattle.std.proofs.Common.{◌≡◌, ◌≢◌, ◌⊎◌, inl, inr, ⊎_elim, ℕ, zero, suc, ◌+◌, ◌<◌, ◌≤◌, Bool, true, false, cond, not, Option, Some, None, List, [], ◌∷◌, ◌++◌, length, refl, sym, ◌∙◌, ap, subst, arith, append_assoc, append-nil}
-use Rattle.std.specs.Prelude.{All, is_some, slice_get}
-use Rattle.ec_attr.specs.declared.geometry.Geometry.{Geometry}
-use Rattle.ec_brick.specs.Fit.{IsFit, IsFitReply}
-use Rattle.ec_store.specs.Put.{put}
-use Rattle.ec_cluster.specs.Matches.{Matches}
+use Rattle.std.proofs.Common.{◌≡◌, ℕ, true, Option, Some, None, List, [], ◌∷◌, ◌++◌, refl, sym, ◌∙◌, ap, subst, append-nil}
+use Rattle.std.specs.Prelude.{is_some, slice_get}
 use Rattle.ec_cluster.specs.Said.{said_in}
-use Rattle.ec_cluster.specs.Sound.{IsFitBody, IsFlying, IsReplyTo, IsSound}
-use Rattle.ec_cluster.specs.Steps.{Advances as ClusterAdvances, IsAllowed, Lives}
-use Rattle.ec_cluster.specs.Views.{bricks_of, flight, log_of, next_of, size_of}
+use Rattle.ec_cluster.specs.Sound.{IsSound}
+use Rattle.ec_cluster.specs.Steps.{Advances as ClusterAdvances, IsAllowed}
+use Rattle.ec_cluster.specs.Views.{log_of, size_of}
 use Rattle.ec_cluster.specs.declared.cluster.Cluster.{Cluster}
-use Rattle.ec_conduct.specs.Account.{Account, Wait}
 use Rattle.ec_conduct.specs.Conduct.{Keeps}
 use Rattle.ec_conduct.specs.Given.{Given}
 use Rattle.ec_conduct.specs.Opened.{account}
-use Rattle.ec_conduct.specs.Own.{Own, Sends, Hears, GivesUp, Answers}
-use Rattle.ec_conduct.specs.Table.{Send, entries_of}
-use Rattle.ec_history.specs.Accounts.{hears}
-use Rattle.ec_history.specs.IsRun.{IsCalling, IsRun}
-use Rattle.ec_history.specs.Run.{Asker, Net, heard, is_number}
-use Rattle.ec_txn.specs.Steps.{Adds, answer_of, number_of}
+use Rattle.ec_conduct.specs.Own.{Own, Answers}
+use Rattle.ec_history.specs.Run.{Net}
+use Rattle.ec_txn.specs.Steps.{answer_of}
 use Rattle.ec_txn.specs.declared.turn.Turn.{Turn}
 use Rattle.ec_txn.specs.declared.turn.Turn.TheVariants.{Wait as Waiting, Done}
 use Rattle.ec_txn.specs.declared.ctx.Ctx.{Ctx}
 use Rattle.ec_wire.specs.declared.answer.Answer.{Answer}
-use Rattle.ec_wire.specs.declared.entry.Entry.{Entry}
-use Rattle.ec_wire.specs.declared.entry.Entry.TheVariants.{Answered, GivenUp, Heard, Sent}
-use Rattle.ec_wire.specs.declared.message.Body.TheVariants.{ToBrick, ToClient}
+use Rattle.ec_wire.specs.declared.entry.Entry.TheVariants.{Answered}
 use Rattle.ec_wire.specs.declared.message.Message.{Message}
-use Rattle.ec_wire.specs.declared.op.Op.{Op}
-use Rattle.ec_wire.specs.declared.reply.Reply.{Reply}
-use Rattle.ec_wire.specs.declared.request.Request.{Request}
-use Rattle.ec_clients.specs.Calls.{HasEnded, IsMade, IsRunning, OfClients, begun_with, ctx_of, request_message}
-use Rattle.ec_clients.specs.Come.{Come, come, come_after}
-use Rattle.ec_clients.specs.Frames.{ChangesAt, Grows}
+use Rattle.ec_clients.specs.Calls.{HasEnded, IsMade, OfClients, begun_with, ctx_of}
+use Rattle.ec_clients.specs.Come.{Come, come_after}
+use Rattle.ec_clients.specs.Frames.{ChangesAt}
 use Rattle.ec_clients.specs.Going.{Going, answer_entries}
-use Rattle.ec_clients.specs.Hearing.{IsAwaited, IsIdle, IsWaiting, reply_message}
-use Rattle.ec_clients.specs.Ledger.{Ledger, ledger}
-use Rattle.ec_clients.specs.Steps.{Breaks, Goes, Seen}
-use Rattle.ec_clients.specs.Views.{is_dead_at, slots_of}
+use Rattle.ec_clients.specs.Ledger.{ledger}
+use Rattle.ec_clients.specs.Steps.{Goes, Seen}
+use Rattle.ec_clients.specs.Views.{slots_of}
 use Rattle.ec_clients.specs.declared.clients.Clients.{Clients}
 use Rattle.ec_clients.specs.declared.clients.Running.{Running}
-use Rattle.ec_clients.specs.declared.options.Options.{Options}
-use Rattle.ec_clients.proofs.Entries.{calls_end, heard_idle, heard_own, heard_made, heard_moves, left_made, left_moves}
+use Rattle.ec_clients.proofs.Entries.{calls_end}
 use Rattle.ec_clients.proofs.Frames.{said_is}
 use Rattle.ec_clients.proofs.Goings.{child_is, said_append}
-use Rattle.ec_clients.proofs.Moves.{Moved, SameBut, account_more, calls_move, calls_same, keeps_front}
-use Rattle.ec_clients.proofs.Places.{either, out_ends, out_moves, put_back, put_here, put_is, put_other, some_is, take_out}
+use Rattle.ec_clients.proofs.Moves.{account_more}
+use Rattle.ec_clients.proofs.Places.{out_ends, put_back, put_here, put_other, some_is}
 
 module _ {C : Type 0} (stands : Ctx → Given → C → List Own → Type 0) (by_table : Ctx → Given → List Own → Type 0) (keeps : (x : Ctx) (given : Given) (call : C) (es : List Own) → stands x given call es → Keeps given es) (tables : (x : Ctx) (given : Given) (call : C) (es : List Own) → stands x given call es → by_table x given es) where
   -- it comes back to its slot

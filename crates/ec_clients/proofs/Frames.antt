@@ -1,5 +1,5 @@
 -- What an entry leaves as it is.
-use Rattle.std.proofs.Common.{◌≡◌, ℕ, Bool, true, false, not, cond, Option, Some, None, List, [], ◌∷◌, ◌++◌, refl, sym, ◌∙◌, ap, subst}
+use Rattle.std.proofs.Common.{◌≡◌, ℕ, Bool, true, false, not, cond, Option, Some, None, refl, ap}
 use Rattle.ec_attr.specs.declared.geometry.Geometry.{Geometry}
 use Rattle.ec_wire.specs.Lanes.{is_to_brick}
 use Rattle.ec_wire.specs.declared.entry.Entry.{Entry}
@@ -10,12 +10,11 @@ use Rattle.ec_wire.specs.declared.message.Message.{Message}
 use Rattle.ec_wire.specs.declared.request.Request.{Request}
 use Rattle.ec_wire.specs.declared.request.Request.TheVariants.{Ask, Release, Query, PreOp, ReadChunks, WriteChunks, SetLength, PostOp, Clear, NameGet, NamesAfter, NameSet, NamesPut, Make, Made, Unmake, Mark, Unmark, GfidsAfter}
 use Rattle.ec_cluster.specs.Said.{said_with}
-use Rattle.ec_history.specs.Accounts.{Books}
-use Rattle.ec_history.specs.Run.{Net, after, executed, executed_by, heard, heard_by, torn_off, torn_by as net_torn}
-use Rattle.ec_history.specs.Story.{Story, done_by, executes, failed_by, is_done, op_of, outcome, request_of, said_by, tears, told, told_executed, told_torn, torn_by}
+use Rattle.ec_history.specs.Run.{Net, executed, executed_by, heard, heard_by, torn_off, torn_by as net_torn}
+use Rattle.ec_history.specs.Story.{Story, done_by, executes, failed_by, outcome, request_of, said_by, tears, told_executed, told_torn, torn_by}
 use Rattle.ec_clients.specs.Come.{Come, come_after}
 use Rattle.ec_clients.specs.Frames.{is_of_bricks}
-use Rattle.ec_clients.specs.Ledger.{Ledger, ledger}
+use Rattle.ec_clients.specs.Ledger.{ledger}
 
 -- a story that is one of two has the gfid that both have
 one_of : (u : Bool) (s t : Story) (n : ℕ) → s.next_gfid ≡ n → t.next_gfid ≡ n → (cond u s t).next_gfid ≡ n

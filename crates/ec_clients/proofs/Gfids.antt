@@ -1,5 +1,5 @@
 -- Clients that have made no call, with another gfid to take.
-use Rattle.std.proofs.Common.{◌≡◌, ℕ, Option, Some, None, List, [], refl}
+use Rattle.std.proofs.Common.{◌≡◌, ℕ, Some, None, List, refl}
 use Rattle.ec_brick.specs.State.{State}
 use Rattle.ec_cluster.specs.declared.cluster.Cluster.{Cluster}
 use Rattle.ec_conduct.specs.Given.{Given}

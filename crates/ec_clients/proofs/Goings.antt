@@ -1,14 +1,13 @@
 -- A call that is out of its slot sends its requests.
-use Rattle.std.proofs.Common.{◌≡◌, ◌≢◌, ◌⊎◌, inl, inr, ⊎_elim, ℕ, zero, suc, ◌+◌, ◌<◌, ◌≤◌, Bool, true, false, cond, Option, Some, None, List, [], ◌∷◌, ◌++◌, length, drop, get_or, refl, sym, ◌∙◌, ap, subst, arith, append_assoc, append-nil}
-use Rattle.std.specs.Prelude.{All, Result, Ok, Err, OnErr, OnOk, slice_get}
+use Rattle.std.proofs.Common.{◌≡◌, ⊎_elim, ℕ, zero, suc, ◌+◌, ◌<◌, false, Option, Some, None, List, [], ◌∷◌, ◌++◌, length, refl, sym, ◌∙◌, ap, subst, arith, append_assoc, append-nil}
+use Rattle.std.specs.Prelude.{Result, Ok, Err, OnErr, slice_get}
 use Rattle.ec_attr.specs.declared.geometry.Geometry.{Geometry}
 use Rattle.ec_store.specs.Put.{put}
 use Rattle.ec_store.specs.Records.{Records}
-use Rattle.ec_brick.specs.Known.{AreKnown}
 use Rattle.ec_cluster.specs.Matches.{Matches, StandsAs}
 use Rattle.ec_cluster.specs.Said.{said_after, said_in, said_with}
 use Rattle.ec_cluster.specs.Sound.{IsSound}
-use Rattle.ec_cluster.specs.Steps.{Advances as ClusterAdvances, IsOfClient, IsUnmoved}
+use Rattle.ec_cluster.specs.Steps.{Advances as ClusterAdvances, IsOfClient}
 use Rattle.ec_cluster.specs.Views.{bricks_of, log_of, next_of, size_of}
 use Rattle.ec_cluster.specs.declared.cluster.Cluster.{Cluster}
 use Rattle.ec_conduct.specs.Conduct.{Keeps}
@@ -16,7 +15,7 @@ use Rattle.ec_conduct.specs.Given.{Given}
 use Rattle.ec_conduct.specs.Own.{Own, Sends}
 use Rattle.ec_conduct.specs.Table.{Send, entries_of}
 use Rattle.ec_history.specs.IsRun.{IsRun}
-use Rattle.ec_history.specs.Run.{Asker, Net, after, run}
+use Rattle.ec_history.specs.Run.{Net, run}
 use Rattle.ec_history.specs.Accounts.{sender}
 use Rattle.ec_txn.specs.declared.ctx.Ctx.{Ctx}
 use Rattle.ec_wire.specs.declared.answer.Answer.{Answer}
@@ -28,16 +27,16 @@ use Rattle.ec_wire.specs.declared.request.Request.{Request}
 use Rattle.ec_clients.specs.Calls.{IsMade, OfClients, begun_with, ctx_of, request_message}
 use Rattle.ec_clients.specs.Come.{Come, come, come_after}
 use Rattle.ec_clients.specs.Frames.{Grows, released_by, with_released}
-use Rattle.ec_clients.specs.Going.{Going, SendsRest, sent_entries}
-use Rattle.ec_clients.specs.Ledger.{Ledger, ledger}
-use Rattle.ec_clients.specs.Steps.{Breaks, Goes, Seen}
+use Rattle.ec_clients.specs.Going.{Going}
+use Rattle.ec_clients.specs.Ledger.{ledger}
+use Rattle.ec_clients.specs.Steps.{AreOfCourse, Breaks, Goes}
 use Rattle.ec_clients.specs.Views.{is_released, slots_of}
 use Rattle.ec_clients.specs.declared.clients.Clients.{Clients}
 use Rattle.ec_clients.specs.declared.options.Options.{Options}
 use Rattle.ec_clients.proofs.Entries.{asked_made, asked_moves, asked_own, let_go_is, sender_is}
 use Rattle.ec_clients.proofs.Frames.{said_is}
 use Rattle.ec_clients.proofs.Moves.{Moved, calls_move, keeps_front}
-use Rattle.ec_clients.proofs.Places.{either, out_moves, put_here, put_is, put_other, some_is}
+use Rattle.ec_clients.proofs.Places.{out_moves, put_here, put_is, some_is}
 
 -- the log
 
@@ -73,10 +72,11 @@ module _ (g : Geometry) (A B D : Come → Type 0) (s t u : Cluster) (es fs : Lis
   }
 
 module _ (g : Geometry) (A B : Come → Type 0) (s t u : Cluster) (es : List Entry) where
-  pub goes_off : Goes g A B s t es → Breaks g B t u → Breaks g A s u
-  goes_off x y = record {
+  pub goes_off : (P Q : List Entry → Type 0) → ((fs : List Entry) → P fs → Q (es ++ fs)) → Goes g A B s t es → Breaks g P B t u → Breaks g Q A s u
+  goes_off P Q begun x y = record {
     entries = es ++ y.entries;
     log = y.log ∙ (ap (λ (l : List Entry). l ++ y.entries) x.log ∙ append_assoc (log_of s) es y.entries);
+    begun = begun y.entries y.begun;
     runs = λ records p a m.
         let one = x.runs records p a m in
         let two = y.runs records (come g es p) (x.leads p a) one.1 in
@@ -92,10 +92,11 @@ has_place (x ∷ xs) (suc b) lt = has_place xs b (omega arith)
 pub stands_now : (s : Cluster) (records : List Records) (m : Net) → Matches s records m → StandsAs (size_of s) records m
 stands_now s records m h = λ b r lt e. let k = has_place (bricks_of s) b lt in (h.bricks b k.0 r k.1 e).known.known
 
-pub breaks_now : (g : Geometry) (A : Come → Type 0) (s t : Cluster) → log_of t ≡ log_of s → Breaks g A s t
-breaks_now g A s t e = record {
+pub breaks_now : (g : Geometry) (P : List Entry → Type 0) (none : P []) (A : Come → Type 0) (s t : Cluster) → log_of t ≡ log_of s → Breaks g P A s t
+breaks_now g P none A s t e = record {
   entries = [];
   log = e ∙ sym (append-nil _);
+  begun = none;
   runs = λ records p a m. (tt, stands_now s records p.net m);
 }
 
@@ -197,6 +198,6 @@ module _ {C : Type 0} (stands : Ctx → Given → C → List Own → Type 0) (by
     }
 
 -- an error before anything was done, whatever the call
-pub none_done : {A E C : Type 0} (g : Geometry) (r : Result A E) (B : C → List Send → Option Answer → Come → Type 0) (s t : Cluster) → log_of t ≡ log_of s → OnErr r ((x : C) (rest : List Send) (answer : Option Answer) → Breaks g (B x rest answer) s t)
+pub none_done : {A E C : Type 0} (g : Geometry) (r : Result A E) (B : C → List Send → Option Answer → Come → Type 0) (s t : Cluster) → log_of t ≡ log_of s → OnErr r ((x : C) (rest : List Send) (answer : Option Answer) → Breaks g AreOfCourse (B x rest answer) s t)
 none_done g (Ok a) B s t e = tt
-none_done g (Err x) B s t e = λ x rest answer. breaks_now g (B x rest answer) s t e
+none_done g (Err x) B s t e = λ x rest answer. breaks_now g AreOfCourse refl (B x rest answer) s t e

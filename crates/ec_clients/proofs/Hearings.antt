@@ -1,50 +1,44 @@
 -- A call hears the reply that it waits for.
-use Rattle.std.proofs.Common.{◌≡◌, ◌≢◌, ◌⊎◌, inl, inr, ⊎_elim, ℕ, zero, suc, ◌+◌, ◌<◌, ◌≤◌, Bool, true, false, cond, not, Option, Some, None, List, [], ◌∷◌, ◌++◌, length, refl, sym, ◌∙◌, ap, subst, arith, append_assoc, append-nil, eqb-true}
+use Rattle.std.proofs.Common.{◌≡◌, ◌≢◌, ℕ, zero, suc, ◌<◌, true, false, Option, Some, None, List, [], ◌∷◌, ◌++◌, length, refl, sym, ◌∙◌, ap, subst, arith, eqb-true}
 use Rattle.std.specs.Prelude.{All, nat_eq, slice_get}
-use Rattle.ec_attr.specs.declared.geometry.Geometry.{Geometry}
 use Rattle.ec_brick.specs.Fit.{IsFit, IsFitReply}
-use Rattle.ec_store.specs.Put.{put}
-use Rattle.ec_cluster.specs.Matches.{Matches, StandsAs}
+use Rattle.ec_cluster.specs.Matches.{StandsAs}
 use Rattle.ec_cluster.specs.Said.{said_in}
-use Rattle.ec_cluster.specs.Sound.{IsFitBody, IsFlying, IsReplyTo, IsSound}
-use Rattle.ec_cluster.specs.Steps.{Advances as ClusterAdvances, IsAllowed, Lives}
+use Rattle.ec_cluster.specs.Sound.{IsFlying, IsReplyTo, IsSound}
+use Rattle.ec_cluster.specs.Steps.{Advances as ClusterAdvances, IsBegun, Lives}
 use Rattle.ec_cluster.specs.Views.{bricks_of, flight, log_of, next_of, size_of}
 use Rattle.ec_cluster.specs.declared.cluster.Cluster.{Cluster}
-use Rattle.ec_conduct.specs.Account.{Account, Wait}
+use Rattle.ec_conduct.specs.Account.{Wait}
 use Rattle.ec_conduct.specs.Conduct.{Keeps}
 use Rattle.ec_conduct.specs.Given.{Given}
 use Rattle.ec_conduct.specs.Opened.{account}
-use Rattle.ec_conduct.specs.Own.{Own, Sends, Hears, GivesUp, Answers}
+use Rattle.ec_conduct.specs.Own.{Own, Hears}
 use Rattle.ec_conduct.specs.Table.{Send, entries_of}
 use Rattle.ec_history.specs.Accounts.{hears}
-use Rattle.ec_history.specs.IsRun.{IsCalling, IsRun}
-use Rattle.ec_history.specs.Run.{Asker, Net, heard, is_number}
+use Rattle.ec_history.specs.Run.{heard}
 use Rattle.ec_txn.specs.Steps.{Adds, number_of}
 use Rattle.ec_txn.specs.declared.ctx.Ctx.{Ctx}
 use Rattle.ec_wire.specs.declared.answer.Answer.{Answer}
 use Rattle.ec_wire.specs.declared.entry.Entry.{Entry}
-use Rattle.ec_wire.specs.declared.entry.Entry.TheVariants.{Answered, GivenUp, Heard, Sent}
-use Rattle.ec_wire.specs.declared.message.Body.TheVariants.{ToBrick, ToClient}
+use Rattle.ec_wire.specs.declared.entry.Entry.TheVariants.{Heard}
+use Rattle.ec_wire.specs.declared.message.Body.TheVariants.{ToBrick}
 use Rattle.ec_wire.specs.declared.message.Message.{Message}
-use Rattle.ec_wire.specs.declared.op.Op.{Op}
 use Rattle.ec_wire.specs.declared.reply.Reply.{Reply}
 use Rattle.ec_wire.specs.declared.request.Request.{Request}
-use Rattle.ec_clients.specs.Calls.{HasEnded, IsMade, IsRunning, OfClients, begun_with, ctx_of, request_message}
+use Rattle.ec_clients.specs.Calls.{IsMade, IsRunning, OfClients, begun_with, ctx_of, request_message}
 use Rattle.ec_clients.specs.Come.{Come, come, come_after}
-use Rattle.ec_clients.specs.Frames.{ChangesAt, Grows}
+use Rattle.ec_clients.specs.Frames.{ChangesAt}
 use Rattle.ec_clients.specs.Going.{Going, answer_entries, sent_entries}
-use Rattle.ec_clients.specs.Hearing.{IsAwaited, IsIdle, IsReplyAt, IsWaiting, reply_in, reply_message}
-use Rattle.ec_clients.specs.Ledger.{Ledger, ledger}
-use Rattle.ec_clients.specs.Steps.{Breaks, Goes, Seen}
+use Rattle.ec_clients.specs.Hearing.{IsAwaited, IsIdle, IsReplyAt, reply_in, reply_message}
+use Rattle.ec_clients.specs.Ledger.{ledger}
+use Rattle.ec_clients.specs.Steps.{AreOfCourse, Breaks, Goes, Seen}
 use Rattle.ec_clients.specs.Views.{is_dead_at, joined, running_at, slots_of}
 use Rattle.ec_clients.specs.declared.clients.Clients.{Clients}
 use Rattle.ec_clients.specs.declared.clients.Running.{Running}
-use Rattle.ec_clients.specs.declared.options.Options.{Options}
-use Rattle.ec_clients.proofs.Entries.{calls_end, heard_idle, heard_own, heard_made, heard_moves, left_made, left_moves}
-use Rattle.ec_clients.proofs.Frames.{said_is}
+use Rattle.ec_clients.proofs.Entries.{heard_own, heard_made, heard_moves}
 use Rattle.ec_clients.proofs.Goings.{child_is, goes_off, goes_on, said_append, stands_now}
-use Rattle.ec_clients.proofs.Moves.{Moved, SameBut, calls_move, calls_same, keeps_front}
-use Rattle.ec_clients.proofs.Places.{either, out_ends, out_moves, put_back, put_here, put_is, put_other, some_is, take_out}
+use Rattle.ec_clients.proofs.Moves.{Moved, calls_move, keeps_front}
+use Rattle.ec_clients.proofs.Places.{out_moves, put_here, some_is, take_out}
 
 wait_is : (re : ℕ) (o : Option Wait) → number_of o ≡ Some re → (w : Wait) × (o ≡ Some w) × (w.number ≡ re)
 wait_is re None e = absurd (cc)
@@ -209,14 +203,15 @@ module _ {C : Type 0} (stands : Ctx → Given → C → List Own → Type 0) (by
   hears_all u e num g = subst (λ (x : ℕ). Goes c.options.geometry (Seen stands by_table s c None) (Seen stands by_table u e None) s u (Heard i ∷ (sent_entries x j (next_of s) sends ++ answer_entries x answer))) has_number
       (subst (λ (n : ℕ). Goes c.options.geometry (Seen stands by_table s c None) (Seen stands by_table u e None) s u (Heard i ∷ (sent_entries r.number j n sends ++ answer_entries r.number answer))) num (heard_then u e (sent_entries r.number j (next_of t) sends ++ answer_entries r.number answer) g))
 
-  pub heard_off : (u : Cluster) → Breaks d.options.geometry (Going stands by_table t d r.number j call sends answer) t u → Breaks c.options.geometry (Seen stands by_table s c None) s u
-  heard_off u g = goes_off c.options.geometry (Seen stands by_table s c None) (Going stands by_table t d r.number j call sends answer) s t u (Heard i ∷ []) heard_at (subst (λ (z : Clients C). Breaks z.options.geometry (Going stands by_table t d r.number j call sends answer) t u) same g)
+  pub heard_off : (u : Cluster) → Breaks d.options.geometry AreOfCourse (Going stands by_table t d r.number j call sends answer) t u → Breaks c.options.geometry (IsBegun (λ e. e ≡ Heard i)) (Seen stands by_table s c None) s u
+  heard_off u g = goes_off c.options.geometry (Seen stands by_table s c None) (Going stands by_table t d r.number j call sends answer) s t u (Heard i ∷ []) AreOfCourse (IsBegun (λ e. e ≡ Heard i)) (λ fs k. (refl, k)) heard_at (subst (λ (z : Clients C). Breaks z.options.geometry AreOfCourse (Going stands by_table t d r.number j call sends answer) t u) same g)
 
 -- there is no memory once it is heard
-pub heard_breaks : {C : Type 0} (stands : Ctx → Given → C → List Own → Type 0) (by_table : Ctx → Given → List Own → Type 0) (s t : Cluster) (c : Clients C) (i j : ℕ) → ClusterAdvances (Lives j) s t (Heard i ∷ []) → is_dead_at c j ≡ false → Breaks c.options.geometry (Seen stands by_table s c None) s t
+pub heard_breaks : {C : Type 0} (stands : Ctx → Given → C → List Own → Type 0) (by_table : Ctx → Given → List Own → Type 0) (s t : Cluster) (c : Clients C) (i j : ℕ) → ClusterAdvances (Lives j) s t (Heard i ∷ []) → is_dead_at c j ≡ false → Breaks c.options.geometry (IsBegun (λ e. e ≡ Heard i)) (Seen stands by_table s c None) s t
 heard_breaks stands by_table s t c i j adv lives = record {
   entries = Heard i ∷ [];
   log = adv.log;
+  begun = (refl, refl);
   runs = λ records p h m.
       let g = adv.runs records p.net m (h.clients.dead j ∙ lives) in
       let now = stands_now t records (come c.options.geometry (Heard i ∷ []) p).net g.1 in
@@ -237,7 +232,7 @@ module _ {C : Type 0} (stands : Ctx → Given → C → List Own → Type 0) (c 
   pub idle_none : running_at c j ≡ None → IsIdle stands c a j b re
   idle_none e r f q x _ es s w = absurd (let bad : None ≡ Some r = sym e ∙ f in cc)
 
-pub heard_breaks_at : {C : Type 0} (stands : Ctx → Given → C → List Own → Type 0) (by_table : Ctx → Given → List Own → Type 0) (s t : Cluster) (c : Clients C) (i a j b re : ℕ) (there : IsReplyAt s i a j b re) (message : Message) → flight s i ≡ Some message → ClusterAdvances (Lives message.client) s t (Heard i ∷ []) → is_dead_at c j ≡ false → Breaks c.options.geometry (Seen stands by_table s c None) s t
+pub heard_breaks_at : {C : Type 0} (stands : Ctx → Given → C → List Own → Type 0) (by_table : Ctx → Given → List Own → Type 0) (s t : Cluster) (c : Clients C) (i a j b re : ℕ) (there : IsReplyAt s i a j b re) (message : Message) → flight s i ≡ Some message → ClusterAdvances (Lives message.client) s t (Heard i ∷ []) → is_dead_at c j ≡ false → Breaks c.options.geometry (IsBegun (λ e. e ≡ Heard i)) (Seen stands by_table s c None) s t
 heard_breaks_at stands by_table s t c i a j b re there message flies adv lives = heard_breaks stands by_table s t c i j (subst (λ (z : Message). ClusterAdvances (Lives z.client) s t (Heard i ∷ [])) (some_is _ _ (sym flies ∙ there.flies)) adv) lives
 
 pub adv_at : (s t : Cluster) (i a j b re : ℕ) (there : IsReplyAt s i a j b re) (message : Message) → flight s i ≡ Some message → ClusterAdvances (Lives message.client) s t (Heard i ∷ []) → ClusterAdvances (Lives j) s t (Heard i ∷ [])

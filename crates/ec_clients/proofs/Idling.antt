@@ -1,5 +1,5 @@
 -- Steps that change nothing of the calls: what bricks do, replies that no call waits for, and clients that die.
-use Rattle.std.proofs.Common.{◌≡◌, ◌≢◌, ◌⊎◌, inl, inr, ⊎_elim, ℕ, ◌+◌, ◌<◌, ◌≤◌, Bool, true, false, cond, not, Option, Some, None, List, [], ◌∷◌, ◌++◌, ◌==◌, length, refl, sym, ◌∙◌, ap, subst, arith, eqb-true}
+use Rattle.std.proofs.Common.{◌≡◌, ◌⊎◌, inl, inr, ⊎_elim, ℕ, ◌+◌, ◌<◌, ◌≤◌, Bool, true, false, Option, Some, None, List, [], ◌∷◌, ◌++◌, ◌==◌, length, refl, sym, ◌∙◌, ap, subst, arith, eqb-true}
 use Rattle.std.specs.Prelude.{slice_get}
 use Rattle.ec_attr.specs.declared.geometry.Geometry.{Geometry}
 use Rattle.ec_store.specs.Put.{put}
@@ -8,14 +8,14 @@ use Rattle.ec_locks.specs.declared.waiters.Waiter.{Waiter}
 use Rattle.ec_cluster.specs.Said.{said_after, said_in, said_with}
 use Rattle.ec_cluster.specs.Sound.{IsFlying, IsReplyTo, IsSound}
 use Rattle.ec_cluster.specs.Steps.{Advances as ClusterAdvances, IsAllowed, Lives}
-use Rattle.ec_cluster.specs.Views.{bricks_of, flight, log_of, next_of, size_of}
+use Rattle.ec_cluster.specs.Views.{bricks_of, log_of, next_of, size_of}
 use Rattle.ec_cluster.specs.declared.cluster.Cluster.{Cluster}
 use Rattle.ec_conduct.specs.Account.{Wait}
 use Rattle.ec_conduct.specs.Given.{Given}
 use Rattle.ec_conduct.specs.Opened.{account}
 use Rattle.ec_conduct.specs.Own.{Own}
 use Rattle.ec_history.specs.Accounts.{hears}
-use Rattle.ec_history.specs.Run.{Asker, Net, heard, is_number}
+use Rattle.ec_history.specs.Run.{Asker, heard, is_number}
 use Rattle.ec_txn.specs.Steps.{number_of}
 use Rattle.ec_txn.specs.declared.ctx.Ctx.{Ctx}
 use Rattle.ec_wire.specs.declared.entry.Entry.{Entry}
@@ -24,10 +24,10 @@ use Rattle.ec_wire.specs.declared.message.Message.{Message}
 use Rattle.ec_wire.specs.declared.reply.Reply.{Reply}
 use Rattle.ec_clients.specs.Calls.{IsMade, IsRunning, OfClients, begun_with, ctx_of, request_message}
 use Rattle.ec_clients.specs.Come.{Come, come, come_after}
-use Rattle.ec_clients.specs.Frames.{AreFrom, AreOfBricks, Grows, IsFrom, is_of_bricks}
+use Rattle.ec_clients.specs.Frames.{AreFrom, AreOfBricks, Grows, IsFrom}
 use Rattle.ec_clients.specs.Hearing.{IsIdle, IsReplyAt, reply_message}
 use Rattle.ec_clients.specs.Ledger.{Ledger, ledger}
-use Rattle.ec_clients.specs.Steps.{Breaks, Goes, Seen}
+use Rattle.ec_clients.specs.Steps.{Goes, Seen}
 use Rattle.ec_clients.specs.Views.{is_dead_at, joined, running_at, slots_of}
 use Rattle.ec_clients.specs.declared.clients.Clients.{Clients}
 use Rattle.ec_clients.specs.declared.clients.Running.{Running}

@@ -1,17 +1,15 @@
 -- A Granted that comes late is answered by a Release once more.
-use Rattle.std.proofs.Common.{◌≡◌, ◌⊎◌, ⊎_elim, ℕ, ◌+◌, ◌<◌, Bool, true, false, cond, Option, Some, None, List, [], ◌∷◌, ◌++◌, length, refl, sym, ◌∙◌, ap, subst, arith}
-use Rattle.std.specs.Prelude.{slice_get}
+use Rattle.std.proofs.Common.{◌≡◌, ⊎_elim, ℕ, ◌<◌, Bool, true, false, cond, Option, Some, None, List, [], ◌∷◌, length, refl, sym, ◌∙◌, ap, subst, arith}
 use Rattle.ec_attr.specs.declared.gfid.Gfid.{Gfid}
 use Rattle.ec_store.specs.Put.{put}
 use Rattle.ec_cluster.specs.Said.{said_in}
 use Rattle.ec_cluster.specs.Sound.{IsFlying, IsReplyTo, IsSound}
-use Rattle.ec_cluster.specs.Steps.{Advances as ClusterAdvances, IsOfClient, Lives}
-use Rattle.ec_cluster.specs.Views.{bricks_of, flight, log_of, next_of, size_of}
+use Rattle.ec_cluster.specs.Steps.{Advances as ClusterAdvances, IsBegun, IsOfClient, Lives}
+use Rattle.ec_cluster.specs.Views.{bricks_of, log_of, next_of, size_of}
 use Rattle.ec_cluster.specs.declared.cluster.Cluster.{Cluster}
 use Rattle.ec_conduct.specs.Given.{Given}
 use Rattle.ec_conduct.specs.Own.{Own, Sends}
 use Rattle.ec_history.specs.Accounts.{own_of, under_kept}
-use Rattle.ec_history.specs.Run.{Net}
 use Rattle.ec_txn.specs.declared.ctx.Ctx.{Ctx}
 use Rattle.ec_wire.specs.declared.entry.Entry.{Entry}
 use Rattle.ec_wire.specs.declared.entry.Entry.TheVariants.{Heard, Sent}
@@ -20,13 +18,13 @@ use Rattle.ec_wire.specs.declared.message.Body.TheVariants.{ToBrick, ToClient}
 use Rattle.ec_wire.specs.declared.message.Message.{Message}
 use Rattle.ec_wire.specs.declared.request.Request.TheVariants.{Release}
 use Rattle.ec_clients.specs.Calls.{OfClients, request_message}
-use Rattle.ec_clients.specs.Come.{Come, come, come_after}
+use Rattle.ec_clients.specs.Come.{Come, come_after}
 use Rattle.ec_clients.specs.Frames.{Grows}
 use Rattle.ec_clients.specs.Hearing.{IsIdle, IsReplyAt, reply_message}
 use Rattle.ec_clients.specs.Late.{late_by, late_gfid}
-use Rattle.ec_clients.specs.Ledger.{Ledger, ledger}
-use Rattle.ec_clients.specs.Owned.{AreOwned, IsOwned, Sees}
-use Rattle.ec_clients.specs.Steps.{Breaks, Goes, Seen}
+use Rattle.ec_clients.specs.Ledger.{ledger}
+use Rattle.ec_clients.specs.Owned.{IsOwned, Sees}
+use Rattle.ec_clients.specs.Steps.{AreOfCourse, Breaks, Goes, Seen}
 use Rattle.ec_clients.specs.Views.{is_dead_at, is_released}
 use Rattle.ec_clients.specs.declared.clients.Clients.{Clients}
 use Rattle.ec_clients.proofs.Booking.{sees_come}
@@ -34,7 +32,7 @@ use Rattle.ec_clients.proofs.Goings.{goes_off, goes_on, said_append}
 use Rattle.ec_clients.proofs.Idling.{below_next, clients_same, idle_goes}
 use Rattle.ec_clients.proofs.Moves.{SameBut}
 use Rattle.ec_clients.proofs.Owning.{heard_asker}
-use Rattle.ec_clients.proofs.Places.{put_is, some_is}
+use Rattle.ec_clients.proofs.Places.{put_is}
 
 module _ {C : Type 0} (stands : Ctx → Given → C → List Own → Type 0) (by_table : Ctx → Given → List Own → Type 0) where
   -- the Release
@@ -133,8 +131,8 @@ module _ {C : Type 0} (stands : Ctx → Given → C → List Own → Type 0) (by
     late_some u g next released more = subst (λ (es : List Entry). Goes c.options.geometry (Sees stands by_table s c) (Sees stands by_table u c) s u (Heard i ∷ es)) (next_same next g)
         (goes_on c.options.geometry (Sees stands by_table s c) (λ p. Sees stands by_table t c p × IsOwned p.net.asker a j) (Sees stands by_table u c) s t u (Heard i ∷ []) (Sent (request_message (next_of t) a j b (Release g re)) ∷ []) heard_goes (again_goes t u c a j b re g adv.sound more released (subst (λ (n : ℕ). b < n) (sym adv.size) (sound.flies i (reply_message i a j b re there.reply) there.flies).brick) lives))
 
-    pub late_off : (u : Cluster) → Breaks c.options.geometry (λ p. Sees stands by_table t c p × IsOwned p.net.asker a j) t u → Breaks c.options.geometry (Sees stands by_table s c) s u
-    late_off u g = goes_off c.options.geometry (Sees stands by_table s c) (λ p. Sees stands by_table t c p × IsOwned p.net.asker a j) s t u (Heard i ∷ []) heard_goes g
+    pub late_off : (u : Cluster) → Breaks c.options.geometry AreOfCourse (λ p. Sees stands by_table t c p × IsOwned p.net.asker a j) t u → Breaks c.options.geometry (IsBegun (λ e. e ≡ Heard i)) (Sees stands by_table s c) s u
+    late_off u g = goes_off c.options.geometry (Sees stands by_table s c) (λ p. Sees stands by_table t c p × IsOwned p.net.asker a j) s t u (Heard i ∷ []) AreOfCourse (IsBegun (λ e. e ≡ Heard i)) (λ fs k. (refl, k)) heard_goes g
 
 -- only a released ask has such a gfid
 pub is_late : (released : Bool) (asked : Option Message) (m : Message) (g : Gfid) → late_gfid released asked (Some m) ≡ Some g → released ≡ true

@@ -1,50 +1,37 @@
 -- A call gives up a brick.
-use Rattle.std.proofs.Common.{◌≡◌, ◌≢◌, ◌⊎◌, inl, inr, ⊎_elim, ℕ, zero, suc, ◌+◌, ◌<◌, ◌≤◌, Bool, true, false, cond, not, Option, Some, None, List, [], ◌∷◌, ◌++◌, length, refl, sym, ◌∙◌, ap, subst, arith, append_assoc, append-nil}
+use Rattle.std.proofs.Common.{◌≡◌, ℕ, ◌<◌, false, Option, Some, None, List, [], ◌∷◌, ◌++◌, refl, sym, ◌∙◌, ap, subst}
 use Rattle.std.specs.Prelude.{All, slice_get}
-use Rattle.ec_attr.specs.declared.geometry.Geometry.{Geometry}
-use Rattle.ec_brick.specs.Fit.{IsFit, IsFitReply}
-use Rattle.ec_store.specs.Put.{put}
-use Rattle.ec_cluster.specs.Matches.{Matches}
+use Rattle.ec_brick.specs.Fit.{IsFit}
 use Rattle.ec_cluster.specs.Said.{said_in}
-use Rattle.ec_cluster.specs.Sound.{IsFitBody, IsFlying, IsReplyTo, IsSound}
-use Rattle.ec_cluster.specs.Steps.{Advances as ClusterAdvances, IsAllowed, Lives}
-use Rattle.ec_cluster.specs.Views.{bricks_of, flight, log_of, next_of, size_of}
+use Rattle.ec_cluster.specs.Steps.{Advances as ClusterAdvances, IsAllowed, IsBegun}
+use Rattle.ec_cluster.specs.Views.{log_of, next_of, size_of}
 use Rattle.ec_cluster.specs.declared.cluster.Cluster.{Cluster}
-use Rattle.ec_conduct.specs.Account.{Account, Wait}
+use Rattle.ec_conduct.specs.Account.{Wait}
 use Rattle.ec_conduct.specs.Conduct.{Keeps}
 use Rattle.ec_conduct.specs.Given.{Given}
 use Rattle.ec_conduct.specs.Opened.{account}
-use Rattle.ec_conduct.specs.Own.{Own, Sends, Hears, GivesUp, Answers}
+use Rattle.ec_conduct.specs.Own.{Own, GivesUp}
 use Rattle.ec_conduct.specs.Table.{Send, entries_of}
-use Rattle.ec_history.specs.Accounts.{hears}
-use Rattle.ec_history.specs.IsRun.{IsCalling, IsRun}
-use Rattle.ec_history.specs.Run.{Asker, Net, heard, is_number}
+use Rattle.ec_history.specs.Run.{Net}
 use Rattle.ec_txn.specs.Steps.{Adds, number_of}
 use Rattle.ec_txn.specs.declared.ctx.Ctx.{Ctx}
 use Rattle.ec_wire.specs.declared.answer.Answer.{Answer}
-use Rattle.ec_wire.specs.declared.entry.Entry.{Entry}
-use Rattle.ec_wire.specs.declared.entry.Entry.TheVariants.{Answered, GivenUp, Heard, Sent}
-use Rattle.ec_wire.specs.declared.message.Body.TheVariants.{ToBrick, ToClient}
+use Rattle.ec_wire.specs.declared.entry.Entry.TheVariants.{GivenUp}
 use Rattle.ec_wire.specs.declared.message.Message.{Message}
-use Rattle.ec_wire.specs.declared.op.Op.{Op}
-use Rattle.ec_wire.specs.declared.reply.Reply.{Reply}
-use Rattle.ec_wire.specs.declared.request.Request.{Request}
-use Rattle.ec_clients.specs.Calls.{HasEnded, IsMade, IsRunning, OfClients, begun_with, ctx_of, request_message}
-use Rattle.ec_clients.specs.Come.{Come, come, come_after}
-use Rattle.ec_clients.specs.Frames.{ChangesAt, Grows}
+use Rattle.ec_clients.specs.Calls.{IsMade, IsRunning, OfClients, begun_with, ctx_of, request_message}
+use Rattle.ec_clients.specs.Come.{Come, come_after}
+use Rattle.ec_clients.specs.Frames.{ChangesAt}
 use Rattle.ec_clients.specs.Going.{Going, answer_entries, sent_entries}
-use Rattle.ec_clients.specs.Hearing.{IsAwaited, IsIdle, IsWaiting, reply_message}
-use Rattle.ec_clients.specs.Ledger.{Ledger, ledger}
-use Rattle.ec_clients.specs.Steps.{Breaks, Goes, Seen}
+use Rattle.ec_clients.specs.Hearing.{IsWaiting}
+use Rattle.ec_clients.specs.Ledger.{ledger}
+use Rattle.ec_clients.specs.Steps.{AreOfCourse, Breaks, Goes, Seen}
 use Rattle.ec_clients.specs.Views.{is_dead_at, joined, slots_of}
 use Rattle.ec_clients.specs.declared.clients.Clients.{Clients}
 use Rattle.ec_clients.specs.declared.clients.Running.{Running}
-use Rattle.ec_clients.specs.declared.options.Options.{Options}
 use Rattle.ec_clients.proofs.Entries.{left_own, left_made, left_moves}
-use Rattle.ec_clients.proofs.Frames.{said_is}
-use Rattle.ec_clients.proofs.Goings.{child_is, goes_off, goes_on, said_append, stands_now}
-use Rattle.ec_clients.proofs.Moves.{Moved, SameBut, calls_move, calls_same, keeps_front}
-use Rattle.ec_clients.proofs.Places.{either, out_ends, out_moves, put_back, put_here, put_is, put_other, some_is, take_out}
+use Rattle.ec_clients.proofs.Goings.{child_is, goes_off, goes_on, said_append}
+use Rattle.ec_clients.proofs.Moves.{Moved, calls_move, keeps_front}
+use Rattle.ec_clients.proofs.Places.{out_moves, put_here, some_is, take_out}
 
 wait_is : (re : ℕ) (o : Option Wait) → number_of o ≡ Some re → (w : Wait) × (o ≡ Some w) × (w.number ≡ re)
 wait_is re None e = absurd (cc)
@@ -175,5 +162,5 @@ module _ {C : Type 0} (stands : Ctx → Given → C → List Own → Type 0) (by
   leaves_all u e g = subst (λ (n : ℕ). Goes c.options.geometry (Seen stands by_table s c None) (Seen stands by_table u e None) s u (GivenUp j b i ∷ (sent_entries r.number j n sends ++ answer_entries r.number answer))) taken
       (goes_on c.options.geometry (Seen stands by_table s c None) (Going stands by_table t d r.number j call sends answer) (Seen stands by_table u e None) s t u (GivenUp j b i ∷ []) (sent_entries r.number j (next_of t) sends ++ answer_entries r.number answer) left_at (subst (λ (z : Clients C). Goes z.options.geometry (Going stands by_table t d r.number j call sends answer) (Seen stands by_table u e None) t u (sent_entries r.number j (next_of t) sends ++ answer_entries r.number answer)) same g))
 
-  pub left_off : (u : Cluster) → Breaks d.options.geometry (Going stands by_table t d r.number j call sends answer) t u → Breaks c.options.geometry (Seen stands by_table s c None) s u
-  left_off u g = goes_off c.options.geometry (Seen stands by_table s c None) (Going stands by_table t d r.number j call sends answer) s t u (GivenUp j b i ∷ []) left_at (subst (λ (z : Clients C). Breaks z.options.geometry (Going stands by_table t d r.number j call sends answer) t u) same g)
+  pub left_off : (u : Cluster) → Breaks d.options.geometry AreOfCourse (Going stands by_table t d r.number j call sends answer) t u → Breaks c.options.geometry (IsBegun (λ e. e ≡ GivenUp j b i)) (Seen stands by_table s c None) s u
+  left_off u g = goes_off c.options.geometry (Seen stands by_table s c None) (Going stands by_table t d r.number j call sends answer) s t u (GivenUp j b i ∷ []) AreOfCourse (IsBegun (λ e. e ≡ GivenUp j b i)) (λ fs k. (refl, k)) left_at (subst (λ (z : Clients C). Breaks z.options.geometry AreOfCourse (Going stands by_table t d r.number j call sends answer) t u) same g)

@@ -1,4 +1,5 @@
 pub mod Finishing
+pub mod Following
 pub mod Frames
 pub mod Goings
 pub mod Sendings

@@ -1,12 +1,9 @@
 -- What the entries of one call make of the ledger and of the call's account.
-use Rattle.std.proofs.Common.{◌≡◌, ◌≢◌, ◌⊎◌, inl, inr, ⊎_elim, ℕ, ◌+◌, ◌<◌, Bool, true, false, not, cond, ◌==◌, ◌&&◌, Option, Some, None, List, [], ◌∷◌, ◌++◌, refl, sym, ◌∙◌, ap, subst, arith, eqb-true, eq-eqb}
+use Rattle.std.proofs.Common.{◌≡◌, ◌≢◌, ⊎_elim, ℕ, ◌+◌, Bool, true, false, cond, ◌==◌, ◌&&◌, Option, Some, None, List, [], ◌∷◌, ◌++◌, refl, sym, ◌∙◌, ap, subst, arith}
 use Rattle.std.proofs.lemmas.Bool.Decides.{nat_tests}
-use Rattle.ec_attr.specs.declared.geometry.Geometry.{Geometry}
 use Rattle.ec_store.specs.Put.{put}
 use Rattle.std.specs.Prelude.{is_some}
-use Rattle.ec_wire.specs.declared.answer.Answer.{Answer}
-use Rattle.ec_wire.specs.declared.entry.Entry.TheVariants.{Called, Sent, Heard, GivenUp, Answered, Died}
-use Rattle.ec_wire.specs.declared.message.Body.TheVariants.{ToBrick, ToClient}
+use Rattle.ec_wire.specs.declared.message.Body.TheVariants.{ToBrick}
 use Rattle.ec_wire.specs.declared.message.Message.{Message}
 use Rattle.ec_wire.specs.declared.reply.Reply.{Reply}
 use Rattle.ec_wire.specs.declared.request.Request.{Request}
@@ -15,17 +12,14 @@ use Rattle.ec_conduct.specs.Account.{Account, Exchange, Wait, account_from, afte
 use Rattle.ec_conduct.specs.Conduct.{Keeps, KeepsFrom}
 use Rattle.ec_conduct.specs.Given.{Given}
 use Rattle.ec_conduct.specs.Opened.{account, opened}
-use Rattle.ec_conduct.specs.Own.{Own, Sends, Hears, GivesUp, Answers}
-use Rattle.ec_history.specs.Accounts.{Books, own_of, sender}
-use Rattle.ec_history.specs.Run.{Asker, awaits_after, let_go_after, put2}
+use Rattle.ec_conduct.specs.Own.{Own, Hears, GivesUp}
+use Rattle.ec_history.specs.Run.{Asker, awaits_after, put2}
 use Rattle.ec_txn.specs.Steps.{number_of}
 use Rattle.ec_clients.specs.Calls.{IsMade, IsUnmade, OfCalls, Waits, begun_with, request_message}
-use Rattle.ec_clients.specs.Come.{Come, come_after}
 use Rattle.ec_clients.specs.Frames.{Grows}
-use Rattle.ec_clients.specs.Ledger.{Ledger, ledger}
+use Rattle.ec_clients.specs.Ledger.{Ledger}
 use Rattle.ec_clients.specs.declared.options.Options.{Options}
-use Rattle.ec_clients.proofs.Frames.{said_same}
-use Rattle.ec_clients.proofs.Places.{either, put_is, put_here, put_other, some_is}
+use Rattle.ec_clients.proofs.Places.{either, put_is, some_is}
 
 -- own entries, one more at the end
 

@@ -1,5 +1,5 @@
 -- Clients that have made no call.
-use Rattle.std.proofs.Common.{BTreeSet, ◌≡◌, ℕ, zero, suc, Bool, true, false, Option, Some, None, List, [], ◌∷◌, ◌++◌, ◌+◌, refl, sym, ◌∙◌, ap, arith, subst, length, replicate}
+use Rattle.std.proofs.Common.{BTreeSet, ◌≡◌, ℕ, zero, suc, Bool, false, Option, Some, None, List, [], ◌∷◌, ◌++◌, ◌+◌, refl, sym, ◌∙◌, ap, arith, subst, length, replicate}
 use Rattle.std.proofs.lemmas.List.{length-replicate}
 use Rattle.std.specs.Prelude.{slice_get}
 use Rattle.std.specs.BTreeSet.{IsEmpty, contains}
@@ -13,10 +13,8 @@ use Rattle.ec_conduct.specs.Own.{Own}
 use Rattle.ec_history.specs.Flat.{Tree}
 use Rattle.ec_txn.specs.declared.ctx.Ctx.{Ctx}
 use Rattle.ec_clients.specs.Beginning.{beginning}
-use Rattle.ec_clients.specs.Calls.{OfCalls, OfClients, OfSlots}
-use Rattle.ec_clients.specs.Ledger.{ledger}
 use Rattle.ec_clients.specs.Owned.{Sees}
-use Rattle.ec_clients.specs.Views.{is_dead_at, is_released, is_true, slots_of}
+use Rattle.ec_clients.specs.Views.{is_released, is_true, slots_of}
 use Rattle.ec_clients.specs.declared.clients.Clients.{Clients}
 use Rattle.ec_clients.specs.declared.clients.Running.{Running}
 

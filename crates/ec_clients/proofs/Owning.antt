@@ -1,5 +1,5 @@
 -- Whose requests are, after each entry.
-use Rattle.std.proofs.Common.{◌≡◌, ◌≢◌, ◌⊎◌, inl, inr, ⊎_elim, ℕ, ◌+◌, Bool, true, false, not, Option, Some, None, List, [], ◌∷◌, ◌++◌, refl, sym, ◌∙◌, ap, subst}
+use Rattle.std.proofs.Common.{◌≡◌, ⊎_elim, ℕ, ◌+◌, Bool, true, false, not, Option, Some, None, List, [], ◌∷◌, ◌++◌, refl, sym, ◌∙◌, ap, subst}
 use Rattle.ec_store.specs.Put.{put}
 use Rattle.ec_conduct.specs.Table.{Send}
 use Rattle.ec_history.specs.Run.{Asker, Net, after, executed, executed_by, heard, heard_by, run, torn_off, torn_by}

@@ -1,11 +1,10 @@
 -- A call sends its requests one after another.
-use Rattle.std.proofs.Common.{◌≡◌, ℕ, suc, ◌+◌, ◌<◌, false, Option, Some, List, [], ◌∷◌, ◌++◌, length, drop, get_or, refl, sym, ◌∙◌, ap, subst, arith, append_assoc, append-nil}
-use Rattle.std.specs.Prelude.{All, Result, Ok, Err, OnErr, OnOk}
+use Rattle.std.proofs.Common.{◌≡◌, ℕ, ◌+◌, ◌<◌, false, Option, Some, List, [], ◌∷◌, ◌++◌, length, drop, get_or, refl, sym, ◌∙◌, ap, subst, append_assoc, append-nil}
+use Rattle.std.specs.Prelude.{Result, Ok, Err, OnErr, OnOk}
 use Rattle.std.proofs.lemmas.List.{drop_more}
-use Rattle.ec_cluster.specs.Said.{said_in}
 use Rattle.ec_cluster.specs.Sound.{IsSound}
 use Rattle.ec_cluster.specs.Steps.{Advances as ClusterAdvances, IsOfClient}
-use Rattle.ec_cluster.specs.Views.{log_of, next_of}
+use Rattle.ec_cluster.specs.Views.{next_of}
 use Rattle.ec_cluster.specs.declared.cluster.Cluster.{Cluster}
 use Rattle.ec_conduct.specs.Conduct.{Keeps}
 use Rattle.ec_conduct.specs.Given.{Given}
@@ -20,9 +19,10 @@ use Rattle.ec_clients.specs.Calls.{request_message}
 use Rattle.ec_clients.specs.Come.{Come}
 use Rattle.ec_clients.specs.Frames.{released_by, with_released}
 use Rattle.ec_clients.specs.Going.{Going, SendsRest, sent_entries}
-use Rattle.ec_clients.specs.Steps.{Breaks, Goes}
+use Rattle.ec_clients.specs.Steps.{AreOfCourse, Breaks, Goes}
 use Rattle.ec_clients.specs.Views.{is_released}
 use Rattle.ec_clients.specs.declared.clients.Clients.{Clients}
+use Rattle.ec_clients.proofs.Following.{front_follow, requests_follow, then_follow}
 use Rattle.ec_clients.proofs.Goings.{breaks_now, goes_off, goes_on, sends_one}
 
 module _ {C : Type 0} (stands : Ctx → Given → C → List Own → Type 0) (by_table : Ctx → Given → List Own → Type 0) where
@@ -58,8 +58,8 @@ module _ {C : Type 0} (stands : Ctx → Given → C → List Own → Type 0) (by
         (subst (λ (z : Clients C). Goes z.options.geometry (Going stands by_table t d a j call ys answer) (Going stands by_table u r a j call zs answer) t u g.entries) f.same (g.goes call answer));
   }
 
-  pub stops_sent : (s t u : Cluster) (c d : Clients C) (a j : ℕ) (xs ys : List Send) (call : C) (answer : Option Answer) → SendsRest stands by_table s t c d a j xs ys → Breaks d.options.geometry (Going stands by_table t d a j call ys answer) t u → Breaks c.options.geometry (Going stands by_table s c a j call xs answer) s u
-  stops_sent s t u c d a j xs ys call answer f g = goes_off c.options.geometry (Going stands by_table s c a j call xs answer) (Going stands by_table t d a j call ys answer) s t u f.entries (f.goes call answer) (subst (λ (z : Clients C). Breaks z.options.geometry (Going stands by_table t d a j call ys answer) t u) f.same g)
+  pub stops_sent : (s t u : Cluster) (c d : Clients C) (a j : ℕ) (xs ys : List Send) (call : C) (answer : Option Answer) → SendsRest stands by_table s t c d a j xs ys → Breaks d.options.geometry AreOfCourse (Going stands by_table t d a j call ys answer) t u → Breaks c.options.geometry AreOfCourse (Going stands by_table s c a j call xs answer) s u
+  stops_sent s t u c d a j xs ys call answer f g = goes_off c.options.geometry (Going stands by_table s c a j call xs answer) (Going stands by_table t d a j call ys answer) s t u f.entries AreOfCourse AreOfCourse (λ fs k. then_follow f.entries fs (front_follow f.entries (sent_entries a j (next_of t) ys) (sent_entries a j (next_of s) xs) f.exact (requests_follow a j (next_of s) xs)) k) (f.goes call answer) (subst (λ (z : Clients C). Breaks z.options.geometry AreOfCourse (Going stands by_table t d a j call ys answer) t u) f.same g)
 
 -- the request at place i
 pub rest_is : (xs : List Send) (i : ℕ) (x d : Send) → i < length xs → x ≡ get_or xs i d → drop i xs ≡ x ∷ drop (i + 1) xs
@@ -86,11 +86,11 @@ module _ {C : Type 0} (stands : Ctx → Given → C → List Own → Type 0) (by
   pub next_sent : (s t u : Cluster) (c d r : Clients C) (a j : ℕ) (sends : List Send) (i : ℕ) (x e : Send) → i < length sends → x ≡ get_or sends i e → SendsRest stands by_table s t c d a j sends (drop i sends) → ((rest : List Send) → SendsRest stands by_table t u d r a j (x ∷ rest) rest) → SendsRest stands by_table s u c r a j sends (drop (i + 1) sends)
   next_sent s t u c d r a j sends i x e lt is f g = then_sent stands by_table s t u c d r a j sends (drop i sends) (drop (i + 1) sends) f (subst (λ (xs : List Send). SendsRest stands by_table t u d r a j xs (drop (i + 1) sends)) (sym (rest_is sends i x e lt is)) (g (drop (i + 1) sends)))
 
-  pub next_stops : (s t u : Cluster) (c d : Clients C) (a j : ℕ) (sends : List Send) (i : ℕ) (x e : Send) → i < length sends → x ≡ get_or sends i e → SendsRest stands by_table s t c d a j sends (drop i sends) → ((call : C) (rest : List Send) (answer : Option Answer) → Breaks d.options.geometry (Going stands by_table t d a j call (x ∷ rest) answer) t u) → (call : C) (answer : Option Answer) → Breaks c.options.geometry (Going stands by_table s c a j call sends answer) s u
-  next_stops s t u c d a j sends i x e lt is f g call answer = stops_sent stands by_table s t u c d a j sends (drop i sends) call answer f (subst (λ (xs : List Send). Breaks d.options.geometry (Going stands by_table t d a j call xs answer) t u) (sym (rest_is sends i x e lt is)) (g call (drop (i + 1) sends) answer))
+  pub next_stops : (s t u : Cluster) (c d : Clients C) (a j : ℕ) (sends : List Send) (i : ℕ) (x e : Send) → i < length sends → x ≡ get_or sends i e → SendsRest stands by_table s t c d a j sends (drop i sends) → ((call : C) (rest : List Send) (answer : Option Answer) → Breaks d.options.geometry AreOfCourse (Going stands by_table t d a j call (x ∷ rest) answer) t u) → (call : C) (answer : Option Answer) → Breaks c.options.geometry AreOfCourse (Going stands by_table s c a j call sends answer) s u
+  next_stops s t u c d a j sends i x e lt is f g call answer = stops_sent stands by_table s t u c d a j sends (drop i sends) call answer f (subst (λ (xs : List Send). Breaks d.options.geometry AreOfCourse (Going stands by_table t d a j call xs answer) t u) (sym (rest_is sends i x e lt is)) (g call (drop (i + 1) sends) answer))
 
-  pub stops_here : (s t : Cluster) (c d : Clients C) (a j : ℕ) (sends rest : List Send) → SendsRest stands by_table s t c d a j sends rest → (call : C) (answer : Option Answer) → Breaks c.options.geometry (Going stands by_table s c a j call sends answer) s t
-  stops_here s t c d a j sends rest f call answer = stops_sent stands by_table s t t c d a j sends rest call answer f (breaks_now d.options.geometry (Going stands by_table t d a j call rest answer) t t refl)
+  pub stops_here : (s t : Cluster) (c d : Clients C) (a j : ℕ) (sends rest : List Send) → SendsRest stands by_table s t c d a j sends rest → (call : C) (answer : Option Answer) → Breaks c.options.geometry AreOfCourse (Going stands by_table s c a j call sends answer) s t
+  stops_here s t c d a j sends rest f call answer = stops_sent stands by_table s t t c d a j sends rest call answer f (breaks_now d.options.geometry AreOfCourse refl (Going stands by_table t d a j call rest answer) t t refl)
 
   -- all are sent, and then something else is done
   pub all_then : (s t u : Cluster) (c d : Clients C) (a j : ℕ) (sends : List Send) (call : C) (answer : Option Answer) (After : Come → Type 0) (fs : List Entry) → SendsRest stands by_table s t c d a j sends [] → Goes d.options.geometry (Going stands by_table t d a j call [] answer) After t u fs → Goes c.options.geometry (Going stands by_table s c a j call sends answer) After s u (sent_entries a j (next_of s) sends ++ fs)

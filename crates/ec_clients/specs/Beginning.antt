@@ -1,5 +1,5 @@
 -- What has come of no log yet, and clients that have made no call.
-use Rattle.std.specs.Prelude.{◌≡◌, ℕ, List, length}
+use Rattle.std.specs.Prelude.{◌≡◌, ℕ, length}
 use Rattle.ec_brick.specs.State.{State}
 use Rattle.ec_history.specs.Accounts.{no_books}
 use Rattle.ec_history.specs.Flat.{Tree}

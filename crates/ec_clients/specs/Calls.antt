@@ -1,5 +1,5 @@
 -- When clients are as a ledger says.
-use Rattle.std.specs.Prelude.{◌≡◌, ◌≢◌, ℕ, ◌<◌, Bool, true, false, is_some, Option, Some, None, List, [], slice_get}
+use Rattle.std.specs.Prelude.{◌≡◌, ◌≢◌, ℕ, ◌<◌, true, false, is_some, Option, Some, None, List, [], slice_get}
 use Rattle.ec_wire.specs.declared.message.Body.TheVariants.{ToBrick}
 use Rattle.ec_wire.specs.declared.message.Message.{Message}
 use Rattle.ec_wire.specs.declared.op.Op.{Op}

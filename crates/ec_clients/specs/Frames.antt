@@ -6,7 +6,7 @@ use Rattle.ec_wire.specs.declared.request.Request.TheVariants.{Release}
 use Rattle.ec_store.specs.Put.{put}
 use Rattle.ec_wire.specs.Lanes.{is_to_brick}
 use Rattle.ec_wire.specs.declared.entry.Entry.{Entry}
-use Rattle.ec_wire.specs.declared.entry.Entry.TheVariants.{Called, Sent, Executed, Heard, Lost, GivenUp, Stopped, Returned, Cut, Died, Yielded, Torn, Answered, Replaced}
+use Rattle.ec_wire.specs.declared.entry.Entry.TheVariants.{Sent, Executed, Lost, Stopped, Returned, Cut, Torn, Replaced}
 
 -- what bricks do, and what becomes of messages
 abbrev pub is_of_bricks : Entry → Bool

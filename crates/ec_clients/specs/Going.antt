@@ -1,6 +1,5 @@
 -- A call that is out of its slot while it takes a step.
-use Rattle.std.specs.Prelude.{◌≡◌, ℕ, ◌+◌, ◌<◌, false, All, Option, Some, None, List, [], ◌∷◌, ◌++◌}
-use Rattle.ec_brick.specs.Fit.{IsFit}
+use Rattle.std.specs.Prelude.{◌≡◌, ℕ, ◌+◌, false, Option, Some, None, List, [], ◌∷◌, ◌++◌}
 use Rattle.ec_cluster.specs.Sound.{IsSound}
 use Rattle.ec_cluster.specs.Views.{next_of, size_of}
 use Rattle.ec_cluster.specs.declared.cluster.Cluster.{Cluster}

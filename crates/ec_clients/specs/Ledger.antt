@@ -1,5 +1,5 @@
 -- What a net, its story and its books say of calls and clients.
-use Rattle.std.specs.Prelude.{◌≡◌, ℕ, ◌<◌, Bool, Option, Some, List, true, false}
+use Rattle.std.specs.Prelude.{ℕ, Bool, Option, List}
 use Rattle.ec_conduct.specs.Given.{CachedStripe, Given}
 use Rattle.ec_conduct.specs.Own.{Own}
 use Rattle.ec_conduct.specs.declared.kept.Kept.{Kept}

@@ -1,5 +1,6 @@
 -- What a step of the clients over a cluster promises.
-use Rattle.std.specs.Prelude.{◌≡◌, ℕ, Option, None, List, ◌++◌}
+use Rattle.std.specs.Prelude.{◌≡◌, ℕ, true, Option, List, ◌++◌}
+use Rattle.std.specs.List.{list_all}
 use Rattle.ec_attr.specs.declared.geometry.Geometry.{Geometry}
 use Rattle.ec_cluster.specs.Matches.{Matches, StandsAs}
 use Rattle.ec_cluster.specs.Said.{said_in}
@@ -9,6 +10,7 @@ use Rattle.ec_cluster.specs.declared.cluster.Cluster.{Cluster}
 use Rattle.ec_conduct.specs.Given.{Given}
 use Rattle.ec_conduct.specs.Own.{Own}
 use Rattle.ec_history.specs.IsRun.{IsRun}
+use Rattle.ec_history.specs.Script.{is_of_course}
 use Rattle.ec_store.specs.Records.{Records}
 use Rattle.ec_txn.specs.declared.ctx.Ctx.{Ctx}
 use Rattle.ec_wire.specs.declared.entry.Entry.{Entry}
@@ -30,8 +32,14 @@ pub record Goes (geometry : Geometry) (Before After : Come → Type 0) (s t : Cl
   pub leads : (p : Come) → Before p → After (come geometry es p)
   pub runs : (records : List Records) (p : Come) → Before p → Matches s records p.net → IsRun (size_of s) es p.net × Matches t records (come geometry es p).net
 
--- Where there is no memory the log has the entries so far, which are a run, and the stores stand as these say.
-pub record Breaks (geometry : Geometry) (Before : Come → Type 0) (s t : Cluster) : Type 0 where
+-- entries that follow from what an event names
+abbrev pub AreOfCourse : List Entry → Type 0
+AreOfCourse es = list_all is_of_course es ≡ true
+
+-- Where there is no memory the log has the entries so far, of which this is said. They are a run, and the stores stand as
+-- these say.
+pub record Breaks (geometry : Geometry) (AreBegun : List Entry → Type 0) (Before : Come → Type 0) (s t : Cluster) : Type 0 where
   pub entries : List Entry
   pub log : log_of t ≡ log_of s ++ entries
+  pub begun : AreBegun entries
   pub runs : (records : List Records) (p : Come) → Before p → Matches s records p.net → IsRun (size_of s) entries p.net × StandsAs (size_of s) records (come geometry entries p).net

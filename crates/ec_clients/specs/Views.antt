@@ -1,5 +1,5 @@
 -- What is seen of the clients.
-use Rattle.std.specs.Prelude.{ℕ, Bool, true, false, Option, Some, None, List, slice_get}
+use Rattle.std.specs.Prelude.{ℕ, Bool, false, Option, Some, None, List, slice_get}
 use Rattle.std.specs.BTreeSet.{contains}
 use Rattle.std.specs.Ordering.{nat_cmp}
 use Rattle.ec_clients.specs.declared.clients.Clients.{Clients}

@@ -11,8 +11,9 @@ ghost use Rattle.ec_clients.specs.Beginning.{AreAsMany};
 ghost use Rattle.ec_clients.specs.Calls.{ctx_of, tabled};
 ghost use Rattle.ec_clients.specs.Come.{Come};
 ghost use Rattle.ec_clients.specs.Hearing.{Begins as BeganBy};
+ghost use Rattle.ec_cluster.specs.Steps.{IsBegun};
 ghost use Rattle.ec_clients.specs.Steps.{Breaks, Goes, Seen};
-ghost use Rattle.ec_wire.specs.declared.entry.Entry.TheVariants.{Died};
+ghost use Rattle.ec_wire.specs.declared.entry.Entry.TheVariants.{Called, Died};
 ghost use Rattle.ec_clients.specs.Views.{is_dead_at, slots_of};
 ghost use Rattle.ec_history.specs.Story.{makes_a_child};
 ghost use Rattle.ec_store.specs.Put.{put};
@@ -107,7 +108,7 @@ pub fn begin<T, C: Begins<T>>(
     ensures ok { OnOk result (BeganBy C.stands (tabled C.begins C.goes) cluster.old cluster.new clients.old clients.new client op.now) }
     ensures options { OnOk result (clients.new.options ≡ clients.old.options) }
     ensures many { OnOk result (AreAsMany clients.old clients.new) }
-    ensures err { OnErr result (Breaks clients.old.options.geometry (Seen C.stands (tabled C.begins C.goes) cluster.old clients.old None) cluster.old cluster.new) }
+    ensures err { OnErr result (Breaks clients.old.options.geometry (IsBegun (λ e. e ≡ Called (clients.old.calls + 1) client op.now)) (Seen C.stands (tabled C.begins C.goes) cluster.old clients.old None) cluster.old cluster.new) }
 {
     let next = cluster.next();
     if next >= LAST || clients.next_gfid >= LAST_GFID {
@@ -159,7 +160,7 @@ pub fn die<T, C: Call<T>>(
     ensures ok { OnOk result (Goes clients.old.options.geometry (Seen C.stands (tabled C.begins C.goes) cluster.old clients.old None) (Seen C.stands (tabled C.begins C.goes) cluster.new clients.new None) cluster.old cluster.new (Died client ∷ [])) }
     ensures same { clients.new ≡ record clients.old { dead = clients.new.dead } }
     ensures many { length clients.new.dead.items ≡ length clients.old.dead.items }
-    ensures err { OnErr result (Breaks clients.old.options.geometry (Seen C.stands (tabled C.begins C.goes) cluster.old clients.old None) cluster.old cluster.new) }
+    ensures err { OnErr result (Breaks clients.old.options.geometry (IsBegun (λ e. ⊥)) (Seen C.stands (tabled C.begins C.goes) cluster.old clients.old None) cluster.old cluster.new) }
 {
     match cluster.note(Entry::Died { client }) {
         Ok(()) => {

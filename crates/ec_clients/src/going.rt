@@ -6,7 +6,7 @@ ghost use Rattle.ec_cluster.specs.Views.{next_of, size_of};
 ghost use Rattle.ec_clients.specs.Beginning.{AreAsMany};
 ghost use Rattle.ec_clients.specs.Calls.{tabled};
 ghost use Rattle.ec_clients.specs.Going.{Going, answer_entries, sent_entries};
-ghost use Rattle.ec_clients.specs.Steps.{Breaks, Goes, Seen};
+ghost use Rattle.ec_clients.specs.Steps.{AreOfCourse, Breaks, Goes, Seen};
 ghost use Rattle.ec_clients.specs.Views.{slots_of};
 ghost use Rattle.ec_txn.specs.Steps.{answer_of};
 
@@ -30,7 +30,7 @@ fn finish<T, C: Call<T>>(
     ensures ok { OnOk result (Goes clients.old.options.geometry (Going C.stands (tabled C.begins C.goes) cluster.old clients.old running.number client running.call [] (answer_of turn)) (Seen C.stands (tabled C.begins C.goes) cluster.new clients.new None) cluster.old cluster.new (answer_entries running.number (answer_of turn))) }
     ensures options { OnOk result (clients.new.options ≡ clients.old.options) }
     ensures many { OnOk result (AreAsMany clients.old clients.new) }
-    ensures err { OnErr result (Breaks clients.old.options.geometry (Going C.stands (tabled C.begins C.goes) cluster.old clients.old running.number client running.call [] (answer_of turn)) cluster.old cluster.new) }
+    ensures err { OnErr result (Breaks clients.old.options.geometry AreOfCourse (Going C.stands (tabled C.begins C.goes) cluster.old clients.old running.number client running.call [] (answer_of turn)) cluster.old cluster.new) }
 {
     match turn {
         Turn::Wait => {
@@ -60,7 +60,7 @@ pub(crate) fn go_on<T, C: Call<T>>(
     ensures ok { OnOk result (Goes clients.old.options.geometry (Going C.stands (tabled C.begins C.goes) cluster.old clients.old running.number client running.call sends.now (answer_of turn)) (Seen C.stands (tabled C.begins C.goes) cluster.new clients.new None) cluster.old cluster.new (sent_entries running.number client (next_of cluster.old) sends.now ++ answer_entries running.number (answer_of turn))) }
     ensures options { OnOk result (clients.new.options ≡ clients.old.options) }
     ensures many { OnOk result (AreAsMany clients.old clients.new) }
-    ensures err { OnErr result (Breaks clients.old.options.geometry (Going C.stands (tabled C.begins C.goes) cluster.old clients.old running.number client running.call sends.now (answer_of turn)) cluster.old cluster.new) }
+    ensures err { OnErr result (Breaks clients.old.options.geometry AreOfCourse (Going C.stands (tabled C.begins C.goes) cluster.old clients.old running.number client running.call sends.now (answer_of turn)) cluster.old cluster.new) }
 {
     match send_all::<T, C>(clients, cluster, running.number, client, sends) {
         Ok(()) => finish::<T, C>(clients, cluster, client, running, turn),

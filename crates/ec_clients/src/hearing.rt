@@ -10,6 +10,7 @@ ghost use Rattle.ec_clients.specs.Going.{answer_entries, sent_entries};
 ghost use Rattle.ec_clients.specs.Hearing.{Hears, IsAwaited, IsIdle, IsReplyAt, reply_in};
 ghost use Rattle.ec_clients.specs.Late.{asked_by, late_entries, late_gfid};
 ghost use Rattle.ec_clients.specs.Owned.{Sees};
+ghost use Rattle.ec_cluster.specs.Steps.{IsBegun};
 ghost use Rattle.ec_clients.specs.Steps.{Breaks, Goes, Seen};
 ghost use Rattle.ec_clients.specs.Views.{is_dead_at, is_released, slots_of};
 ghost use Rattle.ec_wire.specs.declared.entry.Entry.TheVariants.{Heard};
@@ -82,7 +83,7 @@ pub fn hear_awaited<T, C: Call<T>>(
     ensures ok { OnOk result (Hears C.stands (tabled C.begins C.goes) cluster.old cluster.new clients.old clients.new no call client) }
     ensures options { OnOk result (clients.new.options ≡ clients.old.options) }
     ensures many { OnOk result (AreAsMany clients.old clients.new) }
-    ensures err { OnErr result (Breaks clients.old.options.geometry (Seen C.stands (tabled C.begins C.goes) cluster.old clients.old None) cluster.old cluster.new) }
+    ensures err { OnErr result (Breaks clients.old.options.geometry (IsBegun (λ e. e ≡ Heard no)) (Seen C.stands (tabled C.begins C.goes) cluster.old clients.old None) cluster.old cluster.new) }
 {
     let message = match cluster.take_reply(no) {
         Ok(message) => message,
@@ -160,7 +161,7 @@ pub fn hear_idle<T, C: Call<T>>(
     requires idle { IsIdle C.stands clients.now call client brick re }
     requires lives { is_dead_at clients.now client ≡ false }
     ensures ok { OnOk result (Goes clients.now.options.geometry (Sees C.stands (tabled C.begins C.goes) cluster.old clients.now) (Sees C.stands (tabled C.begins C.goes) cluster.new clients.now) cluster.old cluster.new (Heard no ∷ late_entries (next_of cluster.old) call client brick re (late_gfid (is_released clients.now re) (said_in (log_of cluster.old) re) (flight cluster.old no)))) }
-    ensures err { OnErr result (Breaks clients.now.options.geometry (Sees C.stands (tabled C.begins C.goes) cluster.old clients.now) cluster.old cluster.new) }
+    ensures err { OnErr result (Breaks clients.now.options.geometry (IsBegun (λ e. e ≡ Heard no)) (Sees C.stands (tabled C.begins C.goes) cluster.old clients.now) cluster.old cluster.new) }
 {
     let late = late_gfid(clients, cluster, no, re);
     let _message = match cluster.take_reply(no) {

@@ -6,7 +6,9 @@ ghost use Rattle.ec_clients.specs.Beginning.{AreAsMany};
 ghost use Rattle.ec_clients.specs.Calls.{tabled};
 ghost use Rattle.ec_clients.specs.Come.{Come};
 ghost use Rattle.ec_clients.specs.Hearing.{IsWaiting, Leaves};
+ghost use Rattle.ec_cluster.specs.Steps.{IsBegun};
 ghost use Rattle.ec_clients.specs.Steps.{Breaks, Seen};
+ghost use Rattle.ec_wire.specs.declared.entry.Entry.TheVariants.{GivenUp};
 ghost use Rattle.ec_clients.specs.Views.{is_dead_at};
 
 use crate::clients::Clients;
@@ -35,7 +37,7 @@ pub fn leave<T, C: Call<T>>(
     ensures ok { OnOk result (Leaves C.stands (tabled C.begins C.goes) cluster.old cluster.new clients.old clients.new no client brick) }
     ensures options { OnOk result (clients.new.options ≡ clients.old.options) }
     ensures many { OnOk result (AreAsMany clients.old clients.new) }
-    ensures err { OnErr result (Breaks clients.old.options.geometry (Seen C.stands (tabled C.begins C.goes) cluster.old clients.old None) cluster.old cluster.new) }
+    ensures err { OnErr result (Breaks clients.old.options.geometry (IsBegun (λ e. e ≡ GivenUp client brick no)) (Seen C.stands (tabled C.begins C.goes) cluster.old clients.old None) cluster.old cluster.new) }
 {
     let next = cluster.next();
     if next >= LAST {

@@ -7,7 +7,7 @@ ghost use Rattle.ec_cluster.specs.Views.{size_of};
 ghost use Rattle.ec_clients.specs.Calls.{tabled};
 ghost use Rattle.ec_clients.specs.Frames.{released_by, with_released};
 ghost use Rattle.ec_clients.specs.Going.{Going, SendsAll, SendsRest};
-ghost use Rattle.ec_clients.specs.Steps.{Breaks};
+ghost use Rattle.ec_clients.specs.Steps.{AreOfCourse, Breaks};
 ghost use Rattle.ec_clients.specs.Views.{is_released};
 ghost use Rattle.ec_conduct.specs.Table.{Send};
 ghost use Rattle.ec_wire.specs.declared.answer.Answer.{Answer as AnswerOf};
@@ -59,7 +59,7 @@ fn send_one<T, C: Call<T>>(
     requires to { brick < size_of cluster.old }
     requires fit { IsFit request }
     ensures ok { OnOk result ((rest : List Send) → SendsRest C.stands (tabled C.begins C.goes) cluster.old cluster.new clients.old clients.new call client ((brick, request) ∷ rest) rest) }
-    ensures err { OnErr result ((x : C) (rest : List Send) (answer : Option AnswerOf) → Breaks clients.old.options.geometry (Going C.stands (tabled C.begins C.goes) cluster.old clients.old call client x ((brick, request) ∷ rest) answer) cluster.old cluster.new) }
+    ensures err { OnErr result ((x : C) (rest : List Send) (answer : Option AnswerOf) → Breaks clients.old.options.geometry AreOfCourse (Going C.stands (tabled C.begins C.goes) cluster.old clients.old call client x ((brick, request) ∷ rest) answer) cluster.old cluster.new) }
 {
     clients.take_down(&request)?;
     cluster.send(call, client, brick, request)
@@ -77,7 +77,7 @@ pub(crate) fn send_all<T, C: Call<T>>(
     requires to { All (λ s. s.0 < size_of cluster.old) sends.now }
     requires fit { All (λ s. IsFit s.1) sends.now }
     ensures ok { OnOk result (SendsAll C.stands (tabled C.begins C.goes) cluster.old cluster.new clients.old clients.new call client sends.now) }
-    ensures err { OnErr result ((x : C) (answer : Option AnswerOf) → Breaks clients.old.options.geometry (Going C.stands (tabled C.begins C.goes) cluster.old clients.old call client x sends.now answer) cluster.old cluster.new) }
+    ensures err { OnErr result ((x : C) (answer : Option AnswerOf) → Breaks clients.old.options.geometry AreOfCourse (Going C.stands (tabled C.begins C.goes) cluster.old clients.old call client x sends.now answer) cluster.old cluster.new) }
 {
     for send in sends.items() {
         let request = send.1.copy()?;

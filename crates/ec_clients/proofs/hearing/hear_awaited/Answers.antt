@@ -1,7 +1,8 @@
-use Rattle.std.proofs.Common.{◌∙◌, ap, sym, Some, None, ◌++◌}
-use Rattle.ec_cluster.specs.Views.{log_of, next_of}
+use Rattle.std.proofs.Common.{◌∙◌, ap, sym, Some, None, ◌≡◌}
+use Rattle.ec_wire.specs.declared.entry.Entry.TheVariants.{Heard}
+use Rattle.ec_cluster.specs.Steps.{IsBegun}
+use Rattle.ec_cluster.specs.Views.{log_of}
 use Rattle.ec_clients.specs.Calls.{tabled}
-use Rattle.ec_clients.specs.Going.{answer_entries, sent_entries}
 use Rattle.ec_clients.specs.Steps.{Seen}
 use Rattle.ec_txn.specs.Steps.{answer_of}
 use Rattle.ec_clients.proofs.Goings.{breaks_now}
@@ -10,7 +11,7 @@ use Rattle.ec_clients.proofs.Sendings.{err_map, ok_map}
 use Rattle.ec_clients.proofs.hearing.hear_awaited.Goals as goal
 
 pub returns-in-Err-clause-err : goal.returns-in-Err-clause-err
-returns-in-Err-clause-err g c = breaks_now c.args.clients.now.options.geometry (Seen g.C.Conduct.stands (tabled g.C.Conduct.begins g.C.Conduct.goes) c.args.cluster.now c.args.clients.now None) c.args.cluster.now c.take_reply.new.self (λ i. log_of (c.in-Err.ensures.err i))
+returns-in-Err-clause-err g c = breaks_now c.args.clients.now.options.geometry (IsBegun (λ e. e ≡ Heard c.args.no)) tt (Seen g.C.Conduct.stands (tabled g.C.Conduct.begins g.C.Conduct.goes) c.args.cluster.now c.args.clients.now None) c.args.cluster.now c.take_reply.new.self (λ i. log_of (c.in-Err.ensures.err i))
 
 pub take-requires : goal.take-requires
 take-requires g c = slot_there c.args.clients.now.running.items c.args.client c.requires.awaited.running c.requires.awaited.runs

@@ -17,7 +17,7 @@ use Rattle.ec_cluster.specs.Entries.{reply_entries}
 use Rattle.ec_cluster.specs.Matches.{Matches, StandsAs}
 use Rattle.ec_cluster.specs.Said.{said_in}
 use Rattle.ec_cluster.specs.Sound.{IsSound}
-use Rattle.ec_cluster.specs.Steps.{Advances as ClusterAdvances, Always, Breaks as ClusterBreaks, Executes}
+use Rattle.ec_cluster.specs.Steps.{Advances as ClusterAdvances, Always, Breaks as ClusterBreaks, Executes, IsBegun}
 use Rattle.ec_cluster.specs.Tears.{Tears}
 use Rattle.ec_cluster.specs.Views.{bricks_of, log_of, next_of, size_of}
 use Rattle.ec_cluster.specs.declared.cluster.Cluster.{Cluster}
@@ -34,8 +34,9 @@ use Rattle.ec_wire.specs.declared.entry.Entry.TheVariants.{Executed, Torn}
 use Rattle.ec_wire.specs.declared.message.Message.{Message}
 use Rattle.ec_wire.specs.declared.reply.Reply.{Reply}
 use Rattle.ec_world.specs.Events.{Advances, Breaks}
-use Rattle.ec_world.specs.Steps.{IsTear, OneStep}
-use Rattle.ec_world.proofs.Following.{replies_follow, replies_within}
+use Rattle.ec_world.specs.Steps.{IsTear, NoneOr, OneStep}
+use Rattle.ec_cluster.proofs.Following.{replies_follow}
+use Rattle.ec_world.proofs.Following.{replies_within}
 
 -- what the law of the clients says of bricks
 abbrev pub BrickLaw : {C : Type 0} → (Ctx → Given → C → List Own → Type 0) → (Ctx → Given → List Own → Type 0) → Type 0
@@ -46,6 +47,19 @@ step_of e es = record { named = e; follow = es }
 
 pub one : (e : Entry) (es : List Entry) → entries_of (step_of e es ∷ []) ≡ e ∷ es
 one e es = ap (λ (l : List Entry). e ∷ l) (append-nil es)
+
+-- entries so far, as a step
+abbrev pub so_far : List Entry → List Step
+so_far [] = []
+so_far (e ∷ es) = step_of e es ∷ []
+
+pub so_far_is : (es : List Entry) → entries_of (so_far es) ≡ es
+so_far_is [] = refl
+so_far_is (e ∷ es) = one e es
+
+pub so_far_named : (Named : Entry → Type 0) (Is : Net → Entry → Type 0) (p : Come) (es : List Entry) → ((e : Entry) → Named e → Is p.net e) → IsBegun Named es → NoneOr (OneStep Is) p (so_far es)
+so_far_named Named Is p [] f h = tt
+so_far_named Named Is p (e ∷ es) f h = (f e h.0, h.1)
 
 pub as_many : {C : Type 0} (c : Clients C) → AreAsMany c c
 as_many c = record { slots = refl; lives = refl }
@@ -97,19 +111,25 @@ module _ {C : Type 0} (stands : Ctx → Given → C → List Own → Type 0) (by
       (λ told p h m. let y = x.runs told p.net m tt in (y.0, subst (Matches t after) (sym (net_is c.options.geometry (e ∷ es) p)) y.1, is p.net x.effects.version (is_fault x.effects.reply)))
 
   -- where there is no memory
-  pub cluster_breaks : (Told : Type 0) (s t : Cluster) (c : Clients C) (before after : List Records) → ClusterBreaks Told s t before after → Breaks stands by_table Told s t c before after
-  cluster_breaks Told s t c before after b = record {
-    entries = b.entries;
-    log = b.log;
-    runs = λ told p h m. let r = b.runs told p.net m in (r.0, subst (StandsAs (size_of s) after) (sym (net_is c.options.geometry b.entries p)) r.1);
+  pub begun_breaks : (Told : Type 0) (Named : Entry → Type 0) (Is : Net → Entry → Type 0) (s t : Cluster) (c : Clients C) (before after : List Records) (es : List Entry) → log_of t ≡ log_of s ++ es → IsBegun Named es → ((p : Come) → Sees stands by_table s c p → (e : Entry) → Named e → Is p.net e) → (Told → (p : Come) → Sees stands by_table s c p → Matches s before p.net → IsRun (size_of s) es p.net × StandsAs (size_of s) after (come c.options.geometry es p).net) → Breaks stands by_table Told (NoneOr (OneStep Is)) s t c before after
+  begun_breaks Told Named Is s t c before after es log begun is runs = record {
+    steps = so_far es;
+    log = log ∙ ap (λ (l : List Entry). log_of s ++ l) (sym (so_far_is es));
+    runs = λ told p h m.
+        let r = subst (λ (l : List Entry). IsRun (size_of s) l p.net × StandsAs (size_of s) after (come c.options.geometry l p).net) (sym (so_far_is es)) (runs told p h m) in
+        (r.0, r.1, so_far_named Named Is p es (is p h) begun);
   }
 
+  pub cluster_breaks : (Told : Type 0) (Named : Entry → Type 0) (Is : Net → Entry → Type 0) (s t : Cluster) (c : Clients C) (before after : List Records) → ((m : Net) (e : Entry) → Named e → Is m e) → ClusterBreaks Named Told s t before after → Breaks stands by_table Told (NoneOr (OneStep Is)) s t c before after
+  cluster_breaks Told Named Is s t c before after is b = begun_breaks Told Named Is s t c before after b.entries b.log b.begun (λ p h e n. is p.net e n)
+      (λ told p h m. let r = b.runs told p.net m in (r.0, subst (StandsAs (size_of s) after) (sym (net_is c.options.geometry b.entries p)) r.1))
+
   -- nothing was done
-  pub same_breaks : (Told : Type 0) (s t : Cluster) (c : Clients C) (records : List Records) → log_of t ≡ log_of s → Breaks stands by_table Told s t c records records
-  same_breaks Told s t c records e = record {
-    entries = [];
+  pub same_breaks : (Told : Type 0) (First : Come → List Step → Type 0) (s t : Cluster) (c : Clients C) (records : List Records) → ((p : Come) → First p []) → log_of t ≡ log_of s → Breaks stands by_table Told First s t c records records
+  same_breaks Told First s t c records none e = record {
+    steps = [];
     log = e ∙ sym (append-nil _);
-    runs = λ told p h m. (tt, λ b r lt is. let k = has_place (bricks_of s) b lt in (m.bricks b k.0 r k.1 is).known.known);
+    runs = λ told p h m. (tt, λ b r lt is. let k = has_place (bricks_of s) b lt in (m.bricks b k.0 r k.1 is).known.known, none p);
   }
 
 -- a write that is cut short

@@ -16,9 +16,11 @@ use Rattle.ec_clients.specs.Views.{joined, running_at, slots_of}
 use Rattle.ec_clients.specs.declared.clients.Clients.{Clients}
 use Rattle.ec_clients.specs.declared.clients.Running.{Running}
 use Rattle.ec_clients.proofs.Booking.{sees_come, sends_within}
+use Rattle.ec_clients.proofs.Following.{sent_follow}
 use Rattle.ec_clients.proofs.Owning.{AllFit, heard_asker, sent_fit}
 use Rattle.ec_clients.proofs.Places.{put_here, some_is}
 use Rattle.ec_cluster.specs.Matches.{Matches}
+use Rattle.ec_cluster.specs.Steps.{IsBegun}
 use Rattle.ec_cluster.specs.Views.{next_of, size_of}
 use Rattle.ec_cluster.specs.declared.cluster.Cluster.{Cluster}
 use Rattle.ec_conduct.specs.Given.{Given}
@@ -34,9 +36,8 @@ use Rattle.ec_wire.specs.declared.entry.Entry.{Entry}
 use Rattle.ec_wire.specs.declared.entry.Entry.TheVariants.{Called, Died, GivenUp, Heard}
 use Rattle.ec_wire.specs.declared.op.Op.{Op}
 use Rattle.ec_world.specs.Events.{Advances, Breaks}
-use Rattle.ec_world.specs.Steps.{OneStep}
-use Rattle.ec_world.proofs.Advancing.{one_step}
-use Rattle.ec_world.proofs.Following.{sent_follow}
+use Rattle.ec_world.specs.Steps.{NoneOr, OneStep}
+use Rattle.ec_world.proofs.Advancing.{begun_breaks, one_step}
 
 pub unjoined : {X : Type 0} (x : Option (Option X)) (r : X) → joined x ≡ Some r → x ≡ Some (Some r)
 unjoined None r e = absurd (cc)
@@ -92,16 +93,8 @@ module _ {C : Type 0} (stands : Ctx → Given → C → List Own → Type 0) (by
       (tt, to_within s c size (c.calls + 1) j x.sends x.answer x.to)
       is
 
-  pub goes_breaks : (Told : Type 0) (s t : Cluster) (c : Clients C) (records : List Records) → ClientsBreak c.options.geometry (Seen stands by_table s c None) s t → Breaks stands by_table Told s t c records records
-  goes_breaks Told s t c records b = record {
-    entries = b.entries;
-    log = b.log;
-    runs = λ told p h m. b.runs records p h.seen m;
-  }
+  pub goes_breaks : (Told : Type 0) (Named : Entry → Type 0) (Is : Net → Entry → Type 0) (s t : Cluster) (c : Clients C) (records : List Records) → ((p : Come) → Sees stands by_table s c p → (e : Entry) → Named e → Is p.net e) → ClientsBreak c.options.geometry (IsBegun Named) (Seen stands by_table s c None) s t → Breaks stands by_table Told (NoneOr (OneStep Is)) s t c records records
+  goes_breaks Told Named Is s t c records is b = begun_breaks stands by_table Told Named Is s t c records records b.entries b.log b.begun is (λ told p h m. b.runs records p h.seen m)
 
-  pub sees_breaks : (Told : Type 0) (s t : Cluster) (c : Clients C) (records : List Records) → ClientsBreak c.options.geometry (Sees stands by_table s c) s t → Breaks stands by_table Told s t c records records
-  sees_breaks Told s t c records b = record {
-    entries = b.entries;
-    log = b.log;
-    runs = λ told p h m. b.runs records p h m;
-  }
+  pub sees_breaks : (Told : Type 0) (Named : Entry → Type 0) (Is : Net → Entry → Type 0) (s t : Cluster) (c : Clients C) (records : List Records) → ((p : Come) → Sees stands by_table s c p → (e : Entry) → Named e → Is p.net e) → ClientsBreak c.options.geometry (IsBegun Named) (Sees stands by_table s c) s t → Breaks stands by_table Told (NoneOr (OneStep Is)) s t c records records
+  sees_breaks Told Named Is s t c records is b = begun_breaks stands by_table Told Named Is s t c records records b.entries b.log b.begun is (λ told p h m. b.runs records p h m)

@@ -26,7 +26,7 @@ use Rattle.ec_wire.specs.declared.phase.Phase.{Phase}
 use Rattle.ec_world.specs.Events.{Advances, Breaks, OfEvent}
 use Rattle.ec_world.specs.UnderWay.{EachBefore, IsUnderWay}
 use Rattle.ec_world.specs.Resting.{Rests}
-use Rattle.ec_world.specs.Steps.{OneStep}
+use Rattle.ec_world.specs.Steps.{NoneOr, OneStep}
 use Rattle.ec_world.specs.World.{IsCallOf, OfUntil}
 use Rattle.ec_world.proofs.InNet.{ReleasesAll, settled_is}
 
@@ -78,28 +78,22 @@ module _ {C : Type 0} (stands : Ctx → Given → C → List Own → Type 0) (by
       joined_come p = (λ i. come c.options.geometry (entries_append x.steps y.steps i) p) ∙ come_append c.options.geometry (entries_of x.steps) (entries_of y.steps) p
 
   -- these steps, and then no memory
-  pub chain_breaks : (A : Come → List Step → Type 0) (s t u : Cluster) (c d : Clients C) (before mid after : List Records) → Advances stands by_table Told A s t c d before mid → Breaks stands by_table Told t u d mid after → Breaks stands by_table Told s u c before after
-  chain_breaks A s t u c d before mid after x y = record {
-    entries = entries_of x.steps ++ y.entries;
-    log = y.log ∙ (ap (λ (l : List Entry). l ++ y.entries) x.log ∙ append_assoc (log_of s) (entries_of x.steps) y.entries);
+  pub chain_breaks : (A B D : Come → List Step → Type 0) (s t u : Cluster) (c d : Clients C) (before mid after : List Records) → Advances stands by_table Told A s t c d before mid → Breaks stands by_table Told B t u d mid after → ((p : Come) (xs ys : List Step) → A p xs → B (come c.options.geometry (entries_of xs) p) ys → D p (xs ++ ys)) → Breaks stands by_table Told D s u c before after
+  chain_breaks A B D s t u c d before mid after x y join = record {
+    steps = x.steps ++ y.steps;
+    log = y.log ∙ (ap (λ (l : List Entry). l ++ entries_of y.steps) x.log ∙ (append_assoc (log_of s) (entries_of x.steps) (entries_of y.steps) ∙ ap (λ (l : List Entry). log_of s ++ l) (sym (entries_append x.steps y.steps))));
     runs = λ told p h m.
         let one = x.runs told p h m in
-        let two = y.runs told (come c.options.geometry (entries_of x.steps) p) (x.leads p h) one.1 in (
-          is_run_append (size_of s) c.options.geometry (entries_of x.steps) y.entries p one.0 (subst (λ (n : ℕ). IsRun n y.entries (come c.options.geometry (entries_of x.steps) p).net) x.size two.0),
-          subst (λ (z : Come). StandsAs (size_of s) after z.net) (sym (come_append c.options.geometry (entries_of x.steps) y.entries p)) (subst (λ (g : Geometry). StandsAs (size_of s) after (come g y.entries (come c.options.geometry (entries_of x.steps) p)).net) same (subst (λ (n : ℕ). StandsAs n after (come d.options.geometry y.entries (come c.options.geometry (entries_of x.steps) p)).net) x.size two.1)),
-        );
+        let two = y.runs told (come c.options.geometry (entries_of x.steps) p) (x.leads p h) one.1 in
+        let both = subst (λ (l : List Entry). IsRun (size_of s) l p.net × StandsAs (size_of s) after (come c.options.geometry l p).net) (sym (entries_append x.steps y.steps)) (
+          is_run_append (size_of s) c.options.geometry (entries_of x.steps) (entries_of y.steps) p one.0 (subst (λ (n : ℕ). IsRun n (entries_of y.steps) (come c.options.geometry (entries_of x.steps) p).net) x.size two.0),
+          subst (λ (z : Come). StandsAs (size_of s) after z.net) (sym (come_append c.options.geometry (entries_of x.steps) (entries_of y.steps) p)) (subst (λ (g : Geometry). StandsAs (size_of s) after (come g (entries_of y.steps) (come c.options.geometry (entries_of x.steps) p)).net) same (subst (λ (n : ℕ). StandsAs n after (come d.options.geometry (entries_of y.steps) (come c.options.geometry (entries_of x.steps) p)).net) x.size two.1)),
+        ) in
+        (both.0, both.1, join p x.steps y.steps one.2 two.2);
   }
     where
       same : d.options.geometry ≡ c.options.geometry
       same = (λ i. (x.options i).geometry)
-
-  -- where steps end for want of memory the log has those so far
-  pub stopped : (A : Come → List Step → Type 0) (s t : Cluster) (c d : Clients C) (before after : List Records) → Advances stands by_table Told A s t c d before after → ((p : Come) → Matches t after p.net → StandsAs (size_of t) after p.net) → Breaks stands by_table Told s t c before after
-  stopped A s t c d before after x stand = record {
-    entries = entries_of x.steps;
-    log = x.log;
-    runs = λ told p h m. let one = x.runs told p h m in (one.0, subst (λ (n : ℕ). StandsAs n after (come c.options.geometry (entries_of x.steps) p).net) x.size (stand (come c.options.geometry (entries_of x.steps) p) one.1));
-  }
 
 -- one step of settling more
 pub settles_more : (g : Geometry) (p : Come) (xs ys : List Step) → Settles p.net xs → OneStep IsSettling (come g (entries_of xs) p) ys → Settles p.net (xs ++ ys)
@@ -114,6 +108,11 @@ settles_more g p xs ys x y = by xs p.net x (subst (λ (m : Net). Settles m ys) (
     by [] m h k = k
     by (s ∷ xs) m h k = (h.0, h.1, by xs (run (s.named ∷ s.follow) m) h.2 (subst (λ (z : Net). Settles z ys) (run_append (s.named ∷ s.follow) (entries_of xs) m) k))
 
+-- or the first entries of one
+pub settles_part : (g : Geometry) (p : Come) (xs ys : List Step) → Settles p.net xs → NoneOr (OneStep IsSettling) (come g (entries_of xs) p) ys → Settles p.net (xs ++ ys)
+settles_part g p xs [] h k = subst (Settles p.net) (sym (append-nil xs)) h
+settles_part g p xs (y ∷ ys) h k = settles_more g p xs (y ∷ ys) h k
+
 -- one step more, before which what has come is so
 pub before_more : (Is : Come → Type 0) (By : Net → Entry → Type 0) (g : Geometry) (xs ys : List Step) (p : Come) → EachBefore Is g p xs → Is (come g (entries_of xs) p) → OneStep By (come g (entries_of xs) p) ys → EachBefore Is g p (xs ++ ys)
 before_more Is By g [] [] p x is one = absurd one
@@ -122,6 +121,10 @@ before_more Is By g [] (s ∷ r ∷ steps) p x is one = absurd one
 before_more Is By g (s ∷ xs) ys p x is one =
     let same : come g (entries_of (s ∷ xs)) p ≡ come g (entries_of xs) (come g (s.named ∷ s.follow) p) = come_append g (s.named ∷ s.follow) (entries_of xs) p in
     (x.0, before_more Is By g xs ys (come g (s.named ∷ s.follow) p) x.1 (subst Is same is) (subst (λ (z : Come). OneStep By z ys) same one))
+
+pub before_part : (Is : Come → Type 0) (By : Net → Entry → Type 0) (g : Geometry) (xs ys : List Step) (p : Come) → EachBefore Is g p xs → Is (come g (entries_of xs) p) → NoneOr (OneStep By) (come g (entries_of xs) p) ys → EachBefore Is g p (xs ++ ys)
+before_part Is By g xs [] p h is k = subst (EachBefore Is g p) (sym (append-nil xs)) h
+before_part Is By g xs (y ∷ ys) p h is k = before_more Is By g xs (y ∷ ys) p h is k
 
 module _ {C : Type 0} (stands : Ctx → Given → C → List Own → Type 0) (by_table : Ctx → Given → List Own → Type 0) (Told : Type 0) where
   -- nothing more is done

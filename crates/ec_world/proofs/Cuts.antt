@@ -1,5 +1,5 @@
 -- Bricks that cut a client off, one after the other.
-use Rattle.std.proofs.Common.{◌≡◌, ℕ, ◌+◌, ◌<◌, ◌≤◌, Bool, true, false, cond, Option, Some, None, List, [], ◌∷◌, ◌++◌, map, length, refl, sym, ◌∙◌, ap, subst, arith, zero, suc, ⊎_elim, append-nil}
+use Rattle.std.proofs.Common.{◌≡◌, ℕ, ◌+◌, ◌<◌, ◌≤◌, Bool, true, false, cond, Option, Some, None, List, [], ◌∷◌, ◌++◌, map, length, refl, sym, ◌∙◌, ap, subst, arith, zero, suc, ⊎_elim, append-nil, append_assoc, ◌-◌}
 use Rattle.std.proofs.lemmas.List.{map-append}
 use Rattle.std.specs.Prelude.{slice_get}
 use Rattle.std.specs.List.{list_all}
@@ -26,9 +26,10 @@ use Rattle.ec_txn.specs.declared.ctx.Ctx.{Ctx}
 use Rattle.ec_wire.specs.declared.entry.Entry.{Entry}
 use Rattle.ec_wire.specs.declared.entry.Entry.TheVariants.{Called, Sent, Executed, Heard, Lost, GivenUp, Stopped, Returned, Cut as CutOff, Died, Yielded, Torn, Answered, Replaced}
 use Rattle.ec_wire.specs.declared.event.Event.TheVariants.{Cut}
-use Rattle.ec_world.specs.Events.{Advances}
-use Rattle.ec_world.proofs.Becoming.{advances_as}
-use Rattle.ec_world.proofs.Chaining.{chained, no_steps, run_append}
+use Rattle.ec_world.specs.Events.{Advances, Breaks, FirstCuts, FirstOfEvent}
+use Rattle.ec_world.specs.Steps.{NoneOr}
+use Rattle.ec_world.proofs.Becoming.{advances_as, one_breaks_as}
+use Rattle.ec_world.proofs.Chaining.{chain_breaks, chained, no_steps, run_append}
 
 -- what follows of course leaves the bricks as they are
 follow_kept : (es : List Entry) (m : Net) → list_all is_of_course es ≡ true → (run es m).brick ≡ m.brick
@@ -101,6 +102,27 @@ cuts_more g client b p xs ys h k = (
     same : ((come g (entries_of xs) p).net.brick b).up ≡ (p.net.brick b).up
     same = ap (λ (n : Net). (n.brick b).up) (net_is g (entries_of xs) p) ∙ up_kept client (bricks_below b up) xs p.net b h.0 h.1
 
+-- the bricks below a number are the first ones
+below_front : (b k : ℕ) (f : ℕ → Bool) → (more : List ℕ) × (bricks_below (b + k) f ≡ bricks_below b f ++ more)
+below_front b zero f = ([], ap (λ (n : ℕ). bricks_below n f) (omega arith) ∙ sym (append-nil (bricks_below b f)))
+below_front b (suc k) f =
+    let r = below_front b k f in
+    let n : b + suc k ≡ b + k + 1 = omega arith in
+    (r.0 ++ cond (f (b + k)) ((b + k) ∷ []) [], ap (λ (x : ℕ). bricks_below x f) n ∙ (sym (one_more (b + k) f) ∙ (ap (λ (l : List ℕ). l ++ cond (f (b + k)) ((b + k) ∷ []) []) r.1 ∙ append_assoc (bricks_below b f) r.0 (cond (f (b + k)) ((b + k) ∷ []) []))))
+
+pub first_cuts : (n client b : ℕ) (m : Net) (steps : List Step) → b ≤ n → CutsAll b m client steps × AllFollowAll steps → FirstCuts n m client steps
+first_cuts n client b m steps le h =
+    let up : ℕ → Bool = λ x. (m.brick x).up in
+    let r = below_front b (n - b) up in
+    let is : b + (n - b) ≡ n = omega (arith, le) in
+    let all : bricks_below n up ≡ bricks_below b up ++ r.0 = ap (λ (x : ℕ). bricks_below x up) (sym is) ∙ r.1 in
+    (r.0, ap (map (CutOff client)) all ∙ (map-append (CutOff client) (bricks_below b up) r.0 ∙ ap (λ (l : List Entry). l ++ map (CutOff client) r.0) (sym h.0)), h.1)
+
+-- or the first entries of the next brick's
+pub cuts_part : (g : Geometry) (n client b : ℕ) (p : Come) (xs ys : List Step) → b + 1 ≤ n → CutsAll b p.net client xs × AllFollowAll xs → NoneOr (λ q. CutsAt b client q.net) (come g (entries_of xs) p) ys → FirstCuts n p.net client (xs ++ ys)
+cuts_part g n client b p xs [] le h k = subst (FirstCuts n p.net client) (sym (append-nil xs)) (first_cuts n client b p.net xs (omega arith) h)
+cuts_part g n client b p xs (y ∷ ys) le h k = first_cuts n client (b + 1) p.net (xs ++ y ∷ ys) le (cuts_more g client b p xs (y ∷ ys) h k)
+
 has_place : {X : Type 0} (xs : List X) (b : ℕ) → b < length xs → (x : X) × (slice_get xs b ≡ Some x)
 has_place [] b lt = absurd (omega arith)
 has_place (x ∷ xs) zero lt = (x, refl)
@@ -157,3 +179,9 @@ module _ {C : Type 0} (stands : Ctx → Given → C → List Own → Type 0) (by
   cut_past x lt down = chained stands by_table (Unit {0}) (λ p steps. CutsAll b p.net client steps × AllFollowAll steps) (λ p steps. CutsAt b client p.net steps) (λ p steps. CutsAll (b + 1) p.net client steps × AllFollowAll steps) s t t c c c records records records x
       (advances_as stands by_table (Unit {0}) (Unit {0}) (λ p steps. steps ≡ []) (λ p steps. CutsAt b client p.net steps) t t c c records records (λ told. told) (λ p steps h m e. subst (λ (l : List Step). CutsAt b client p.net l) (sym e) (cuts_down p.net client b (up_is t records p.net b lt m ∙ down))) (no_steps stands by_table (Unit {0}) (λ p steps. steps ≡ []) t c records x.sound (λ p. refl)))
       (λ p xs ys h k. cuts_more c.options.geometry client b p xs ys h k)
+
+  -- or there is no memory
+  pub cut_off_breaks : (u : Cluster) → Advances stands by_table (Unit {0}) (λ p steps. CutsAll b p.net client steps × AllFollowAll steps) s t c c records records → b < size_of s → b < size_of t → is_up_at t b ≡ true → Breaks stands by_table (Unit {0}) (NoneOr (λ p. IsOneStep p.net (Cut client (Some b)))) t u c records records → Breaks stands by_table (Unit {0}) (FirstOfEvent (size_of s) (Cut client None)) s u c records records
+  cut_off_breaks u x low lt up y = chain_breaks stands by_table (Unit {0}) (λ p steps. CutsAll b p.net client steps × AllFollowAll steps) (NoneOr (λ p. CutsAt b client p.net)) (FirstOfEvent (size_of s) (Cut client None)) s t u c c records records records x
+      (one_breaks_as stands by_table (Unit {0}) (Unit {0}) (λ p steps. IsOneStep p.net (Cut client (Some b)) steps) (λ p steps. CutsAt b client p.net steps) t u c c records records (λ told. told) (λ p steps h m z. cuts_up p.net client b steps (up_is t records p.net b lt m ∙ up) z) y)
+      (λ p xs ys h k. cuts_part c.options.geometry (size_of s) client b p xs ys (omega arith) h k)

@@ -6,6 +6,7 @@ pub mod Counting
 pub mod Cuts
 pub mod Delivering
 pub mod Following
+pub mod Growing
 pub mod Held
 pub mod Naming
 pub mod Outcomes

@@ -24,7 +24,7 @@ use Rattle.ec_wire.specs.declared.entry.Entry.{Entry}
 use Rattle.ec_wire.specs.declared.event.Event.{Event}
 use Rattle.ec_world.proofs.Held.{held_unanswered}
 use Rattle.ec_world.proofs.Outcomes.{stays_world}
-use Rattle.ec_world.specs.Events.{OfEvent, Outcome, Stepped}
+use Rattle.ec_world.specs.Events.{FirstOfEvent, OfEvent, Outcome, Stepped}
 use Rattle.ec_world.specs.Unanswered.{AreHeld, AreUnanswered}
 use Rattle.ec_world.specs.Whole.{IsAs, IsOpen, StaysOpen}
 use Rattle.ec_world.specs.World.{IsWorld}
@@ -61,22 +61,22 @@ module _ {C : Type 0} (stands : Ctx → Given → C → List Own → Type 0) (by
   unanswered_is w calls h bricks = let x = sees_over w bricks in subst (λ (m : Net). AreUnanswered m calls) x.2 (held_unanswered stands by_table s c x.0 x.1 calls h)
 
 module _ {C : Type 0} (stands : Ctx → Given → C → List Own → Type 0) (by_table : Ctx → Given → List Own → Type 0) (Told : Type 0) where
-  keeps_size : (Of : Come → List Step → Type 0) (s t : Cluster) (c d : Clients C) (before after : List Records) (o : Option Refused) (result : Result (Unit {0}) Refused) → Stepped stands by_table Told Of s t c d before after o result → (result ≡ Err NoMemory → ⊥) → size_of t ≡ size_of s
-  keeps_size Of s t c d before after o (Ok x) h ne = h.1.size
-  keeps_size Of s t c d before after o (Err NoMemory) h ne = absurd (ne refl)
-  keeps_size Of s t c d before after o (Err Unbuilt) h ne = ap size_of h.1
-  keeps_size Of s t c d before after o (Err (NoMessage n)) h ne = ap size_of h.1
-  keeps_size Of s t c d before after o (Err (NoneBetween x y)) h ne = ap size_of h.1
-  keeps_size Of s t c d before after o (Err (Busy n)) h ne = ap size_of h.1
-  keeps_size Of s t c d before after o (Err (Idle n)) h ne = ap size_of h.1
-  keeps_size Of s t c d before after o (Err (Dead n)) h ne = ap size_of h.1
-  keeps_size Of s t c d before after o (Err (Down n)) h ne = ap size_of h.1
-  keeps_size Of s t c d before after o (Err (Up n)) h ne = ap size_of h.1
-  keeps_size Of s t c d before after o (Err (NoBrick n)) h ne = ap size_of h.1
-  keeps_size Of s t c d before after o (Err (NotAsked x y)) h ne = ap size_of h.1
-  keeps_size Of s t c d before after o (Err (NotTearable n)) h ne = ap size_of h.1
-  keeps_size Of s t c d before after o (Err (TooMany n)) h ne = ap size_of h.1
-  keeps_size Of s t c d before after o (Err (NotKeeping n)) h ne = ap size_of h.1
+  keeps_size : (Of First : Come → List Step → Type 0) (s t : Cluster) (c d : Clients C) (before after : List Records) (o : Option Refused) (result : Result (Unit {0}) Refused) → Stepped stands by_table Told Of First s t c d before after o result → (result ≡ Err NoMemory → ⊥) → size_of t ≡ size_of s
+  keeps_size Of First s t c d before after o (Ok x) h ne = h.1.size
+  keeps_size Of First s t c d before after o (Err NoMemory) h ne = absurd (ne refl)
+  keeps_size Of First s t c d before after o (Err Unbuilt) h ne = ap size_of h.1
+  keeps_size Of First s t c d before after o (Err (NoMessage n)) h ne = ap size_of h.1
+  keeps_size Of First s t c d before after o (Err (NoneBetween x y)) h ne = ap size_of h.1
+  keeps_size Of First s t c d before after o (Err (Busy n)) h ne = ap size_of h.1
+  keeps_size Of First s t c d before after o (Err (Idle n)) h ne = ap size_of h.1
+  keeps_size Of First s t c d before after o (Err (Dead n)) h ne = ap size_of h.1
+  keeps_size Of First s t c d before after o (Err (Down n)) h ne = ap size_of h.1
+  keeps_size Of First s t c d before after o (Err (Up n)) h ne = ap size_of h.1
+  keeps_size Of First s t c d before after o (Err (NoBrick n)) h ne = ap size_of h.1
+  keeps_size Of First s t c d before after o (Err (NotAsked x y)) h ne = ap size_of h.1
+  keeps_size Of First s t c d before after o (Err (NotTearable n)) h ne = ap size_of h.1
+  keeps_size Of First s t c d before after o (Err (TooMany n)) h ne = ap size_of h.1
+  keeps_size Of First s t c d before after o (Err (NotKeeping n)) h ne = ap size_of h.1
 
 module _ (stands : Ctx → Given → AnyCall → List Own → Type 0) (by_table : Ctx → Given → List Own → Type 0) where
   open_after : (t : World) (result : Result (Unit {0}) Refused) → ((result ≡ Err NoMemory → ⊥) → IsOpen stands by_table t) → StaysOpen stands by_table t result
@@ -98,7 +98,7 @@ module _ (stands : Ctx → Given → AnyCall → List Own → Type 0) (by_table 
 
   -- an event leaves a world open
   pub stays_open : (Told : Type 0) (event : Event) (w t : World) (before after : List Records) (result : Result (Unit {0}) Refused) → IsOpen stands by_table w → t.bricks ≡ w.bricks → Outcome stands by_table Told event w.cluster t.cluster w.clients t.clients before after result → StaysOpen stands by_table t result
-  stays_open Told event w t before after result o bricks h = open_after t result (λ ne. let world = stays_world stands by_table Told event w.cluster t.cluster w.clients t.clients before after result o.world h ne in record { world = world; size = keeps_size stands by_table Told (OfEvent (size_of w.cluster) event) w.cluster t.cluster w.clients t.clients before after h.0 result h.2 ne ∙ (o.size ∙ sym bricks) })
+  stays_open Told event w t before after result o bricks h = open_after t result (λ ne. let world = stays_world stands by_table Told event w.cluster t.cluster w.clients t.clients before after result o.world h ne in record { world = world; size = keeps_size stands by_table Told (OfEvent (size_of w.cluster) event) (FirstOfEvent (size_of w.cluster) event) w.cluster t.cluster w.clients t.clients before after h.0 result h.2 ne ∙ (o.size ∙ sym bricks) })
 
   pub begun_as : (w : World) (bricks : ℕ → State) (first : ℕ) (records : List Records) → ((bricks : ℕ → State) (tree : Tree) → Sees stands by_table w.cluster w.clients (beginning bricks tree first)) → Matches w.cluster records (fresh bricks) → IsAs stands by_table w records (fresh bricks)
   begun_as w bricks first records h m = record { come = beginning bricks some_tree first; net = refl; sees = h bricks some_tree; matches = m }

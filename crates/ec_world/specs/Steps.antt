@@ -12,6 +12,11 @@ OneStep Is p [] = ⊥
 OneStep Is p (s ∷ []) = Is p.net s.named × AllFollow s
 OneStep Is p (s ∷ r ∷ steps) = ⊥
 
+-- no step yet, or steps of which this is said
+abbrev pub NoneOr : (Come → List Step → Type 0) → Come → List Step → Type 0
+NoneOr Of p [] = Unit {0}
+NoneOr Of p (s ∷ steps) = Of p (s ∷ steps)
+
 -- message i is delivered
 abbrev pub IsDelivery : ℕ → Net → Entry → Type 0
 IsDelivery i m e = ((version : Option ℕ) × (failed : Bool) × (e ≡ Executed i version failed)) ⊎ (e ≡ Heard i)

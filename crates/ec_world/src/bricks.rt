@@ -1,13 +1,13 @@
 // Events of bricks and of messages, which no client decides.
-ghost use Rattle.std.specs.Prelude.{◌≡◌, ℕ, List, Option, Some, None, true, is_some, length, map};
+ghost use Rattle.std.specs.Prelude.{◌≡◌, ℕ, List, Option, Some, None, true, is_some, length, map, ◌<◌, OnOk};
 ghost use Rattle.std.specs.List.{list_all};
-ghost use Rattle.ec_cluster.specs.Views.{can_execute, flight, size_of};
+ghost use Rattle.ec_cluster.specs.Views.{can_execute, flight, log_of, size_of};
 ghost use Rattle.ec_clients.specs.Calls.{tabled};
 ghost use Rattle.ec_cluster.specs.Sound.{IsSound};
 ghost use Rattle.ec_store.specs.Records.{Records};
 ghost use Rattle.ec_wire.specs.declared.event.Event.TheVariants.{Cut, Lose, Return, Stop};
-ghost use Rattle.ec_world.specs.Events.{OfEvent, Stepped};
-ghost use Rattle.ec_world.specs.Steps.{IsDelivery, IsLoss, OneStep};
+ghost use Rattle.ec_world.specs.Events.{FirstOfEvent, OfEvent, Stepped};
+ghost use Rattle.ec_world.specs.Steps.{IsDelivery, IsLoss, NoneOr, OneStep};
 ghost use Rattle.ec_world.specs.Refusals.{IsFound, lose_refusal, return_refusal, stop_refusal};
 
 use crate::named::missing;
@@ -25,7 +25,7 @@ pub fn stop<C: Conduct>(
     brick: u8,
 ) -> Result<(), Refused>
     requires sound { IsSound cluster.old }
-    ensures { (records : List Records) → Stepped C.stands (tabled C.begins C.goes) (Unit {0}) (OfEvent (size_of cluster.old) (Stop brick)) cluster.old cluster.new clients.now clients.now records records (stop_refusal cluster.old brick) result }
+    ensures { (records : List Records) → Stepped C.stands (tabled C.begins C.goes) (Unit {0}) (OfEvent (size_of cluster.old) (Stop brick)) (FirstOfEvent (size_of cluster.old) (Stop brick)) cluster.old cluster.new clients.now clients.now records records (stop_refusal cluster.old brick) result }
 {
     if usize::from(brick) >= cluster.bricks().len() {
         return Err(Refused::NoBrick(brick));
@@ -47,7 +47,7 @@ pub fn return_brick<C: Conduct>(
     brick: u8,
 ) -> Result<(), Refused>
     requires sound { IsSound cluster.old }
-    ensures { (records : List Records) → Stepped C.stands (tabled C.begins C.goes) (Unit {0}) (OfEvent (size_of cluster.old) (Return brick)) cluster.old cluster.new clients.now clients.now records records (return_refusal cluster.old brick) result }
+    ensures { (records : List Records) → Stepped C.stands (tabled C.begins C.goes) (Unit {0}) (OfEvent (size_of cluster.old) (Return brick)) (FirstOfEvent (size_of cluster.old) (Return brick)) cluster.old cluster.new clients.now clients.now records records (return_refusal cluster.old brick) result }
 {
     if usize::from(brick) >= cluster.bricks().len() {
         return Err(Refused::NoBrick(brick));
@@ -70,7 +70,8 @@ pub fn lose_one<C: Conduct>(
 ) -> Result<(), Refused>
     requires sound { IsSound cluster.old }
     requires flies { is_some (flight cluster.old no) ≡ true }
-    ensures { (records : List Records) → Stepped C.stands (tabled C.begins C.goes) (Unit {0}) (OneStep (IsLoss no)) cluster.old cluster.new clients.now clients.now records records None result }
+    ensures stepped { (records : List Records) → Stepped C.stands (tabled C.begins C.goes) (Unit {0}) (OneStep (IsLoss no)) (NoneOr (OneStep (IsLoss no))) cluster.old cluster.new clients.now clients.now records records None result }
+    ensures grows { OnOk result (length (log_of cluster.old) < length (log_of cluster.new)) }
 {
     brick_law::<C>();
     match cluster.lose(no) {
@@ -88,7 +89,7 @@ pub fn lose<C: Conduct>(
 ) -> Result<(), Refused>
     requires sound { IsSound cluster.old }
     requires named { IsFound cluster.old which named }
-    ensures { (records : List Records) → Stepped C.stands (tabled C.begins C.goes) (Unit {0}) (OfEvent (size_of cluster.old) (Lose which)) cluster.old cluster.new clients.now clients.now records records (lose_refusal which named) result }
+    ensures { (records : List Records) → Stepped C.stands (tabled C.begins C.goes) (Unit {0}) (OfEvent (size_of cluster.old) (Lose which)) (FirstOfEvent (size_of cluster.old) (Lose which)) cluster.old cluster.new clients.now clients.now records records (lose_refusal which named) result }
 {
     match named {
         Some(no) => lose_one(clients, cluster, no),
@@ -104,7 +105,7 @@ pub fn cut<C: Conduct>(
     brick: u8,
 ) -> Result<(), Refused>
     requires sound { IsSound cluster.old }
-    ensures { (records : List Records) → Stepped C.stands (tabled C.begins C.goes) (Unit {0}) (OfEvent (size_of cluster.old) (Cut client (Some brick))) cluster.old cluster.new clients.now clients.now records records (stop_refusal cluster.old brick) result }
+    ensures { (records : List Records) → Stepped C.stands (tabled C.begins C.goes) (Unit {0}) (OfEvent (size_of cluster.old) (Cut client (Some brick))) (FirstOfEvent (size_of cluster.old) (Cut client (Some brick))) cluster.old cluster.new clients.now clients.now records records (stop_refusal cluster.old brick) result }
 {
     if usize::from(brick) >= cluster.bricks().len() {
         return Err(Refused::NoBrick(brick));
@@ -131,7 +132,8 @@ pub fn execute<S: BrickStore, C: Conduct>(
     requires stores { length stores.old ≡ size_of cluster.old }
     requires request { can_execute cluster.old no ≡ true }
     ensures tells { list_all S.told stores.new ≡ list_all S.told stores.old }
-    ensures stepped { Stepped C.stands (tabled C.begins C.goes) (list_all S.told stores.old ≡ true) (OneStep (IsDelivery no)) cluster.old cluster.new clients.now clients.now (map S.records stores.old) (map S.records stores.new) None result }
+    ensures stepped { Stepped C.stands (tabled C.begins C.goes) (list_all S.told stores.old ≡ true) (OneStep (IsDelivery no)) (NoneOr (OneStep (IsDelivery no))) cluster.old cluster.new clients.now clients.now (map S.records stores.old) (map S.records stores.new) None result }
+    ensures grows { OnOk result (length (log_of cluster.old) < length (log_of cluster.new)) }
 {
     brick_law::<C>();
     reply_law();

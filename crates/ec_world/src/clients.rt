@@ -1,16 +1,16 @@
 // Events of clients.
-ghost use Rattle.std.specs.Prelude.{◌≡◌, ◌<◌, ◌-◌, ◌^◌, ℕ, List, Option, Some, None, false, length};
+ghost use Rattle.std.specs.Prelude.{◌≡◌, ◌<◌, ◌-◌, ◌^◌, ℕ, List, Option, Some, None, false, length, OnOk};
 ghost use Rattle.ec_clients.specs.Come.{Come};
 ghost use Rattle.ec_clients.specs.Hearing.{IsReplyAt, IsWaiting};
 ghost use Rattle.ec_clients.specs.Owned.{Sees};
 ghost use Rattle.ec_clients.specs.Views.{is_dead_at, running_at, slots_of};
-ghost use Rattle.ec_cluster.specs.Views.{size_of};
+ghost use Rattle.ec_cluster.specs.Views.{log_of, size_of};
 ghost use Rattle.ec_clients.specs.Calls.{tabled};
 ghost use Rattle.ec_cluster.specs.Sound.{IsSound};
 ghost use Rattle.ec_store.specs.Records.{Records};
 ghost use Rattle.ec_wire.specs.declared.event.Event.TheVariants.{Call as CallOf, Die, GiveUp};
-ghost use Rattle.ec_world.specs.Events.{OfEvent, Stepped};
-ghost use Rattle.ec_world.specs.Steps.{IsDelivery, IsGivingUp, OneStep};
+ghost use Rattle.ec_world.specs.Events.{FirstOfEvent, OfEvent, Stepped};
+ghost use Rattle.ec_world.specs.Steps.{IsDelivery, IsGivingUp, NoneOr, OneStep};
 ghost use Rattle.ec_world.specs.Refusals.{IsAwaitedBy, call_refusal, die_refusal, give_up_refusal, yield_refusal};
 
 use crate::refused::Refused;
@@ -28,7 +28,7 @@ pub fn die<T, C: Call<T>>(
 ) -> Result<(), Refused>
     requires sound { IsSound cluster.old }
     requires there { client < length clients.old.dead.items }
-    ensures { (records : List Records) → Stepped C.stands (tabled C.begins C.goes) (Unit {0}) (OfEvent (size_of cluster.old) (Die client)) cluster.old cluster.new clients.old clients.new records records (die_refusal clients.old client) result }
+    ensures { (records : List Records) → Stepped C.stands (tabled C.begins C.goes) (Unit {0}) (OfEvent (size_of cluster.old) (Die client)) (FirstOfEvent (size_of cluster.old) (Die client)) cluster.old cluster.new clients.old clients.new records records (die_refusal clients.old client) result }
 {
     if clients.is_dead(client) {
         return Err(Refused::Dead(client));
@@ -72,7 +72,7 @@ pub fn call<T, C: Begins<T>>(
     requires sound { IsSound cluster.old }
     requires size { size_of cluster.old ≡ clients.old.options.geometry.n }
     requires there { client < length (slots_of clients.old) }
-    ensures { (records : List Records) → Stepped C.stands (tabled C.begins C.goes) (Unit {0}) (OfEvent (size_of cluster.old) (CallOf client op.now)) cluster.old cluster.new clients.old clients.new records records (call_refusal clients.old client wrong) result }
+    ensures { (records : List Records) → Stepped C.stands (tabled C.begins C.goes) (Unit {0}) (OfEvent (size_of cluster.old) (CallOf client op.now)) (FirstOfEvent (size_of cluster.old) (CallOf client op.now)) cluster.old cluster.new clients.old clients.new records records (call_refusal clients.old client wrong) result }
 {
     if clients.is_dead(client) {
         return Err(Refused::Dead(client));
@@ -111,7 +111,8 @@ pub fn hear<T, C: Call<T>>(
     requires sees { (p : Come) × Sees C.stands (tabled C.begins C.goes) cluster.old clients.old p }
     requires there { IsReplyAt cluster.old no call client brick re }
     requires lives { is_dead_at clients.old client ≡ false }
-    ensures { (records : List Records) → Stepped C.stands (tabled C.begins C.goes) (Unit {0}) (OneStep (IsDelivery no)) cluster.old cluster.new clients.old clients.new records records None result }
+    ensures stepped { (records : List Records) → Stepped C.stands (tabled C.begins C.goes) (Unit {0}) (OneStep (IsDelivery no)) (NoneOr (OneStep (IsDelivery no))) cluster.old cluster.new clients.old clients.new records records None result }
+    ensures grows { OnOk result (length (log_of cluster.old) < length (log_of cluster.new)) }
 {
     if is_awaited::<T, C>(clients, client, call, brick, re) {
         match hear_awaited::<T, C>(clients, cluster, alloc, rows, no, client, call, brick, re) {
@@ -141,7 +142,8 @@ pub fn leave_one<T, C: Call<T>>(
     requires sees { (p : Come) × Sees C.stands (tabled C.begins C.goes) cluster.old clients.old p }
     requires waiting { IsWaiting C.stands clients.old client brick no }
     requires lives { is_dead_at clients.old client ≡ false }
-    ensures { (records : List Records) → Stepped C.stands (tabled C.begins C.goes) (Unit {0}) (OneStep (IsGivingUp client brick no)) cluster.old cluster.new clients.old clients.new records records None result }
+    ensures stepped { (records : List Records) → Stepped C.stands (tabled C.begins C.goes) (Unit {0}) (OneStep (IsGivingUp client brick no)) (NoneOr (OneStep (IsGivingUp client brick no))) cluster.old cluster.new clients.old clients.new records records None result }
+    ensures grows { OnOk result (length (log_of cluster.old) < length (log_of cluster.new)) }
 {
     match leave::<T, C>(clients, cluster, alloc, rows, client, brick, no) {
         Ok(()) => Ok(()),
@@ -173,7 +175,7 @@ pub fn give_up<T, C: Call<T>>(
     requires size { size_of cluster.old ≡ clients.old.options.geometry.n }
     requires sees { (p : Come) × Sees C.stands (tabled C.begins C.goes) cluster.old clients.old p }
     requires awaited { IsAwaitedBy C.stands (running_at clients.old client) brick number }
-    ensures { (records : List Records) → Stepped C.stands (tabled C.begins C.goes) (Unit {0}) (OfEvent (size_of cluster.old) (GiveUp client brick)) cluster.old cluster.new clients.old clients.new records records (give_up_refusal cluster.old clients.old client brick number) result }
+    ensures { (records : List Records) → Stepped C.stands (tabled C.begins C.goes) (Unit {0}) (OfEvent (size_of cluster.old) (GiveUp client brick)) (FirstOfEvent (size_of cluster.old) (GiveUp client brick)) cluster.old cluster.new clients.old clients.new records records (give_up_refusal cluster.old clients.old client brick number) result }
 {
     if usize::from(brick) >= cluster.bricks().len() {
         return Err(Refused::NoBrick(brick));

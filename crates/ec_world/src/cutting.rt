@@ -5,7 +5,7 @@ ghost use Rattle.ec_cluster.specs.Sound.{IsSound};
 ghost use Rattle.ec_cluster.specs.Views.{size_of};
 ghost use Rattle.ec_store.specs.Records.{Records};
 ghost use Rattle.ec_wire.specs.declared.event.Event.TheVariants.{Cut};
-ghost use Rattle.ec_world.specs.Events.{OfEvent, Outcome, Stepped};
+ghost use Rattle.ec_world.specs.Events.{FirstOfEvent, OfEvent, Outcome, Stepped};
 
 use crate::bricks::cut;
 use crate::refused::Refused;
@@ -21,7 +21,7 @@ pub fn cut_all<C: Conduct>(
 ) -> Result<(), Refused>
     requires sound { IsSound cluster.old }
     requires few { size_of cluster.old ≤ 31 }
-    ensures { (records : List Records) → Stepped C.stands (tabled C.begins C.goes) (Unit {0}) (OfEvent (size_of cluster.old) (Cut client None)) cluster.old cluster.new clients.now clients.now records records None result }
+    ensures { (records : List Records) → Stepped C.stands (tabled C.begins C.goes) (Unit {0}) (OfEvent (size_of cluster.old) (Cut client None)) (FirstOfEvent (size_of cluster.old) (Cut client None)) cluster.old cluster.new clients.now clients.now records records None result }
 {
     for brick in 0..cluster.bricks().len() {
         if cluster.is_up(brick as u8) {

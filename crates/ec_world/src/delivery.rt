@@ -1,15 +1,15 @@
 // Messages that are delivered.
-ghost use Rattle.std.specs.Prelude.{◌≡◌, List, None, is_some, true, length, map};
+ghost use Rattle.std.specs.Prelude.{◌≡◌, List, None, is_some, true, length, map, ◌<◌, OnOk};
 ghost use Rattle.std.specs.List.{list_all};
 ghost use Rattle.ec_clients.specs.Calls.{tabled};
 ghost use Rattle.ec_clients.specs.Come.{Come};
 ghost use Rattle.ec_clients.specs.Owned.{Sees};
 ghost use Rattle.ec_cluster.specs.Sound.{IsSound};
-ghost use Rattle.ec_cluster.specs.Views.{flight, size_of};
+ghost use Rattle.ec_cluster.specs.Views.{flight, log_of, size_of};
 ghost use Rattle.ec_world.specs.Address.{address_of};
 ghost use Rattle.ec_wire.specs.declared.event.Event.TheVariants.{Deliver};
-ghost use Rattle.ec_world.specs.Events.{OfEvent, Stepped};
-ghost use Rattle.ec_world.specs.Steps.{IsDelivery, OneStep};
+ghost use Rattle.ec_world.specs.Events.{FirstOfEvent, OfEvent, Stepped};
+ghost use Rattle.ec_world.specs.Steps.{IsDelivery, NoneOr, OneStep};
 ghost use Rattle.ec_world.specs.Refusals.{IsFound, deliver_refusal, message_refusal};
 ghost use Rattle.ec_world.specs.Settling.{Moves};
 
@@ -60,7 +60,7 @@ pub fn deliver<S: BrickStore, T, C: Call<T>>(
     requires stores { length stores.old ≡ size_of cluster.old }
     requires named { IsFound cluster.old which named }
     ensures tells { list_all S.told stores.new ≡ list_all S.told stores.old }
-    ensures stepped { Stepped C.stands (tabled C.begins C.goes) (list_all S.told stores.old ≡ true) (OfEvent (size_of cluster.old) (Deliver which)) cluster.old cluster.new clients.old clients.new (map S.records stores.old) (map S.records stores.new) (deliver_refusal cluster.old clients.old which named) result }
+    ensures stepped { Stepped C.stands (tabled C.begins C.goes) (list_all S.told stores.old ≡ true) (OfEvent (size_of cluster.old) (Deliver which)) (FirstOfEvent (size_of cluster.old) (Deliver which)) cluster.old cluster.new clients.old clients.new (map S.records stores.old) (map S.records stores.new) (deliver_refusal cluster.old clients.old which named) result }
 {
     match named {
         Some(no) => deliver_one::<S, T, C>(clients, cluster, stores, alloc, rows, no),
@@ -83,7 +83,7 @@ fn deliver_one<S: BrickStore, T, C: Call<T>>(
     requires stores { length stores.old ≡ size_of cluster.old }
     requires flies { is_some (flight cluster.old no) ≡ true }
     ensures tells { list_all S.told stores.new ≡ list_all S.told stores.old }
-    ensures stepped { Stepped C.stands (tabled C.begins C.goes) (list_all S.told stores.old ≡ true) (OneStep (IsDelivery no)) cluster.old cluster.new clients.old clients.new (map S.records stores.old) (map S.records stores.new) (message_refusal cluster.old clients.old (flight cluster.old no)) result }
+    ensures stepped { Stepped C.stands (tabled C.begins C.goes) (list_all S.told stores.old ≡ true) (OneStep (IsDelivery no)) (NoneOr (OneStep (IsDelivery no))) cluster.old cluster.new clients.old clients.new (map S.records stores.old) (map S.records stores.new) (message_refusal cluster.old clients.old (flight cluster.old no)) result }
 {
     match address(cluster, no) {
         Some(Address::Brick(brick)) => {
@@ -125,7 +125,8 @@ pub(crate) fn move_on<S: BrickStore, T, C: Call<T>>(
     requires stores { length stores.old ≡ size_of cluster.old }
     requires flies { is_some (flight cluster.old no) ≡ true }
     ensures tells { list_all S.told stores.new ≡ list_all S.told stores.old }
-    ensures stepped { Stepped C.stands (tabled C.begins C.goes) (list_all S.told stores.old ≡ true) (OneStep (Moves cluster.old clients.old no)) cluster.old cluster.new clients.old clients.new (map S.records stores.old) (map S.records stores.new) None result }
+    ensures stepped { Stepped C.stands (tabled C.begins C.goes) (list_all S.told stores.old ≡ true) (OneStep (Moves cluster.old clients.old no)) (NoneOr (OneStep (Moves cluster.old clients.old no))) cluster.old cluster.new clients.old clients.new (map S.records stores.old) (map S.records stores.new) None result }
+    ensures grows { OnOk result (length (log_of cluster.old) < length (log_of cluster.new)) }
 {
     match address(cluster, no) {
         Some(Address::Brick(brick)) => {

@@ -6,13 +6,15 @@ ghost use Rattle.ec_clients.specs.Calls.{tabled};
 ghost use Rattle.ec_clients.specs.Come.{Come};
 ghost use Rattle.ec_clients.specs.Owned.{Sees};
 ghost use Rattle.ec_cluster.specs.Sound.{IsSound};
-ghost use Rattle.ec_cluster.specs.Views.{size_of};
+ghost use Rattle.ec_cluster.specs.Views.{log_of, size_of};
+ghost use Rattle.ec_history.specs.Script.{IsSettling};
 ghost use Rattle.ec_wire.specs.declared.event.Event.TheVariants.{Settle};
-ghost use Rattle.ec_world.specs.Events.{Breaks, OfEvent, Stepped};
+ghost use Rattle.ec_world.specs.Events.{Breaks, FirstOfEvent, OfEvent, Stepped};
 ghost use Rattle.ec_world.specs.UnderWay.{IsStill};
 ghost use Rattle.ec_world.specs.Refusals.{until_refusal};
 ghost use Rattle.ec_world.specs.Resting.{IsFirst, IsFree, IsFreeBelow, IsFreeOf, IsStuckAt, IsStuckBy, Rests};
 ghost use Rattle.ec_world.specs.Settling.{GoesOn};
+ghost use Rattle.ec_world.specs.Steps.{NoneOr, OneStep};
 ghost use Rattle.ec_world.specs.World.{IsCallOf, IsPast, OfUntil};
 
 use crate::clients::{awaited, leave_one};
@@ -105,7 +107,8 @@ fn settle_step<S: BrickStore, T, C: Call<T>>(
     requires stores { length stores.old ≡ size_of cluster.old }
     ensures tells { list_all S.told stores.new ≡ list_all S.told stores.old }
     ensures ok { IfOk result (GoesOn C.stands (tabled C.begins C.goes) (list_all S.told stores.old ≡ true) cluster.old cluster.new clients.old clients.new (map S.records stores.old) (map S.records stores.new)) }
-    ensures err { OnErr result (Breaks C.stands (tabled C.begins C.goes) (list_all S.told stores.old ≡ true) cluster.old cluster.new clients.old (map S.records stores.old) (map S.records stores.new)) }
+    ensures err { OnErr result (Breaks C.stands (tabled C.begins C.goes) (list_all S.told stores.old ≡ true) (NoneOr (OneStep IsSettling)) cluster.old cluster.new clients.old (map S.records stores.old) (map S.records stores.new)) }
+    ensures grows { IfOk result (λ more. more ≡ true → length (log_of cluster.old) < length (log_of cluster.new)) }
 {
     match cluster.first() {
         Some(no) => match move_on::<S, T, C>(clients, cluster, stores, alloc, rows, no) {
@@ -132,9 +135,6 @@ fn settle_step<S: BrickStore, T, C: Call<T>>(
     }
 }
 
-/// More steps than a log has entries.
-const MOST_STEPS: u64 = 0xFFFF_FFFF_FFFF_FFFF;
-
 /// Steps until none is left that applies: the lowest message in flight is delivered, or lost where it goes nowhere; where
 /// none is in flight, the lowest client that waits in vain gives up the lowest such brick. No client keeps grants.
 pub fn settle<S: BrickStore, T, C: Call<T>>(
@@ -150,17 +150,18 @@ pub fn settle<S: BrickStore, T, C: Call<T>>(
     requires many { HasClients clients.old }
     requires stores { length stores.old ≡ size_of cluster.old }
     ensures tells { list_all S.told stores.new ≡ list_all S.told stores.old }
-    ensures stepped { Stepped C.stands (tabled C.begins C.goes) (list_all S.told stores.old ≡ true) (OfEvent (size_of cluster.old) Settle) cluster.old cluster.new clients.old clients.new (map S.records stores.old) (map S.records stores.new) None result }
+    ensures stepped { Stepped C.stands (tabled C.begins C.goes) (list_all S.told stores.old ≡ true) (OfEvent (size_of cluster.old) Settle) (FirstOfEvent (size_of cluster.old) Settle) cluster.old cluster.new clients.old clients.new (map S.records stores.old) (map S.records stores.new) None result }
     ensures rests { OnOk result (Rests C.stands cluster.new clients.new) }
 {
-    for _ in 0..MOST_STEPS {
+    loop {
+        // Each step adds an entry to the log, which never has 2^64 of them.
+        let _ = cluster.log().len();
         match settle_step::<S, T, C>(clients, cluster, stores, alloc, rows) {
             Ok(true) => {}
             Ok(false) => return Ok(()),
             Err(_) => return Err(Refused::NoMemory),
         }
     }
-    Err(Refused::NoMemory)
 }
 
 /// Whether the call of this number that a client runs is over, or is in the phase.
@@ -192,7 +193,7 @@ pub fn until<S: BrickStore, T, C: Call<T>>(
     requires sees { (p : Come) × Sees C.stands (tabled C.begins C.goes) cluster.old clients.old p }
     requires stores { length stores.old ≡ size_of cluster.old }
     ensures tells { list_all S.told stores.new ≡ list_all S.told stores.old }
-    ensures stepped { Stepped C.stands (tabled C.begins C.goes) (list_all S.told stores.old ≡ true) (OfUntil C.stands (tabled C.begins C.goes) C.stage C.phase_of (size_of cluster.old) clients.old client phase) cluster.old cluster.new clients.old clients.new (map S.records stores.old) (map S.records stores.new) (until_refusal clients.old client) result }
+    ensures stepped { Stepped C.stands (tabled C.begins C.goes) (list_all S.told stores.old ≡ true) (OfUntil C.stands (tabled C.begins C.goes) C.stage C.phase_of (size_of cluster.old) clients.old client phase) (OfUntil C.stands (tabled C.begins C.goes) C.stage C.phase_of (size_of cluster.old) clients.old client phase) cluster.old cluster.new clients.old clients.new (map S.records stores.old) (map S.records stores.new) (until_refusal clients.old client) result }
     ensures ends { OnOk result (Rests C.stands cluster.new clients.new ⊎ ((number : ℕ) × IsCallOf clients.old client number × IsPast C.stage C.phase_of clients.new client number phase)) }
 {
     if clients.is_dead(client) {
@@ -202,7 +203,9 @@ pub fn until<S: BrickStore, T, C: Call<T>>(
         Some(running) => running.number,
         None => return Err(Refused::Idle(client)),
     };
-    for _ in 0..MOST_STEPS {
+    loop {
+        // Each step adds an entry to the log, which never has 2^64 of them.
+        let _ = cluster.log().len();
         if is_over::<T, C>(clients, client, number, phase) {
             return Ok(());
         }
@@ -212,5 +215,4 @@ pub fn until<S: BrickStore, T, C: Call<T>>(
             Err(_) => return Err(Refused::NoMemory),
         }
     }
-    Err(Refused::NoMemory)
 }

@@ -5,7 +5,7 @@ ghost use Rattle.ec_clients.specs.Calls.{tabled};
 ghost use Rattle.ec_cluster.specs.Sound.{IsSound};
 ghost use Rattle.ec_cluster.specs.Views.{flight, size_of};
 ghost use Rattle.ec_wire.specs.declared.event.Event.TheVariants.{Tear};
-ghost use Rattle.ec_world.specs.Events.{OfEvent, Stepped};
+ghost use Rattle.ec_world.specs.Events.{FirstOfEvent, OfEvent, Stepped};
 ghost use Rattle.ec_world.specs.Refusals.{IsFound, brick_of, tear_refusal};
 
 use crate::named::missing;
@@ -39,7 +39,7 @@ pub fn tear<S: BrickStore, C: Conduct>(
     requires stores { length stores.old ≡ size_of cluster.old }
     requires named { IsFound cluster.old which named }
     ensures tells { list_all S.told stores.new ≡ list_all S.told stores.old }
-    ensures stepped { Stepped C.stands (tabled C.begins C.goes) (list_all S.told stores.old ≡ true) (OfEvent (size_of cluster.old) (Tear which bytes)) cluster.old cluster.new clients.now clients.now (map S.records stores.old) (map S.records stores.new) (tear_refusal cluster.old which named bytes) result }
+    ensures stepped { Stepped C.stands (tabled C.begins C.goes) (list_all S.told stores.old ≡ true) (OfEvent (size_of cluster.old) (Tear which bytes)) (FirstOfEvent (size_of cluster.old) (Tear which bytes)) cluster.old cluster.new clients.now clients.now (map S.records stores.old) (map S.records stores.new) (tear_refusal cluster.old which named bytes) result }
 {
     let no = match named {
         Some(no) => no,

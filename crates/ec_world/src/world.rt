@@ -4,7 +4,7 @@ ghost use Rattle.std.specs.List.{list_all};
 ghost use Rattle.ec_brick.specs.Opening.{IsForeign};
 ghost use Rattle.ec_brick.specs.State.{State};
 ghost use Rattle.ec_clients.specs.Calls.{tabled};
-ghost use Rattle.ec_cluster.specs.Open.{AreKept, AreRooted, AreUnused, HasRisen, IsAfterTaken, IsEmpty, IsFaultOf, IsNextGfid, opened};
+ghost use Rattle.ec_cluster.specs.Open.{AreAccepted, AreKept, AreRooted, AreUnused, HasRisen, IsAfterTaken, IsEmpty, IsFaultOf, IsNextGfid, opened};
 ghost use Rattle.ec_cluster.specs.Views.{log_of};
 ghost use Rattle.ec_history.specs.Run.{fresh, run};
 ghost use Rattle.ec_world.specs.Unanswered.{AreUnanswered};
@@ -94,9 +94,11 @@ impl World {
         ensures kept { list_all S.told stores.old ≡ true → ¬ (AreUnused (config_of volume.now) (length stores.old) (map S.records stores.old)) → map S.records stores.new ≡ map S.records stores.old }
         ensures part { IfErr result (λ e. list_all S.told stores.old ≡ true → (map S.records stores.new ≡ map S.records stores.old) ⊎ AreRooted (config_of volume.now) e.0 (map S.records stores.old) (map S.records stores.new)) }
 
-        // Which head is refused, and that a store that failed has counted it.
+        // Which head is refused: one of the first store that has such. A store that failed has counted it.
         ensures refused { IfErr result (λ e. (e.0 < length stores.old) × IsForeign (config_of volume.now) e.1) }
         ensures head { IfErr result (λ e. list_all S.told stores.old ≡ true → IsFaultOf (config_of volume.now) (map S.records stores.old) e) }
+        ensures first { IfErr result (λ e. list_all S.told stores.old ≡ true → AreAccepted (config_of volume.now) e.0 (map S.records stores.old)) }
+        ensures accepted { OnOk result (list_all S.told stores.old ≡ true → AreAccepted (config_of volume.now) (length stores.old) (map S.records stores.old)) }
         ensures cause { IfErr result (HasRisen (map S.faults stores.old) (map S.faults stores.new)) }
     {
         let mut clients = match new_clients::<AnyCall>(alloc, options_of(volume), 2) {

@@ -16,4 +16,4 @@ lose_one-requires-clause-flies g c = found_flies c.args.cluster.now c.args.which
 pub returns-in-Some : goal.returns-in-Some
 returns-in-Some g c = λ records. stepped_as g.C.Conduct.stands (tabled g.C.Conduct.begins g.C.Conduct.goes) (Unit {0}) (Unit {0}) (OneStep (IsLoss c.in-Some.no)) (λ p steps. IsOneStep p.net (Lose c.args.which) steps) c.args.cluster.now c.lose_one.new.cluster c.args.clients.now c.args.clients.now records records (λ t. t)
     (λ p steps h m x. one_named (IsLoss c.in-Some.no) (Lose c.args.which) p steps (λ e y. names_loss p.net c.args.which c.in-Some.no e (named_is g.C.Conduct.stands (tabled g.C.Conduct.begins g.C.Conduct.goes) c.args.cluster.now c.args.clients.now records p c.requires.sound h m c.args.which c.in-Some.no (subst (IsFound c.args.cluster.now c.args.which) c.in-Some.is c.requires.named)) y) x)
-    None (lose_refusal c.args.which c.args.named) (λ f. ap (lose_refusal c.args.which) c.in-Some.is) (λ e f. absurd (cc)) c.lose_one.result (c.lose_one.ensures records)
+    None (lose_refusal c.args.which c.args.named) (λ f. ap (lose_refusal c.args.which) c.in-Some.is) (λ e f. absurd (cc)) c.lose_one.result (c.lose_one.ensures.stepped records)

@@ -1,6 +1,7 @@
 use Rattle.std.proofs.Common.{List, [], ap, arith, length, refl, sym}
 use Rattle.ec_brick.specs.declared.brick.Brick.{Brick}
-use Rattle.ec_cluster.specs.Views.{log_of}
+use Rattle.ec_cluster.specs.Views.{log_of, size_of}
+use Rattle.ec_world.specs.Events.{FirstOfEvent}
 use Rattle.ec_clients.specs.Calls.{tabled}
 use Rattle.ec_history.specs.Script.{Names}
 use Rattle.ec_wire.specs.declared.entry.Entry.TheVariants.{Stopped}
@@ -14,4 +15,4 @@ pub returns-in-Ok : goal.returns-in-Ok
 returns-in-Ok g c = λ records. (may_stop c.args.cluster.now c.args.brick (omega (arith, c.from.ensures, ap (λ (xs : List Brick). length xs) c.bricks.ensures)) (sym c.if-not-is_up.ensures), named_advances g.C.Conduct.stands (tabled g.C.Conduct.begins g.C.Conduct.goes) (Unit {0}) (Stop c.args.brick) c.args.cluster.now c.stop.new.self c.args.clients.now c.args.clients.now records records (brick_advances g.C.Conduct.stands (tabled g.C.Conduct.begins g.C.Conduct.goes) c.brick_law.ensures (Unit {0}) (λ m e. Names m (Stop c.args.brick) e) c.args.cluster.now c.stop.new.self c.args.clients.now records (Stopped c.args.brick) [] c.requires.sound c.in-Ok.ensures.ok (refl, tt) (tt, tt) (tt, tt) refl (λ m. refl)))
 
 pub returns-in-Err : goal.returns-in-Err
-returns-in-Err g c = λ records. same_breaks g.C.Conduct.stands (tabled g.C.Conduct.begins g.C.Conduct.goes) (Unit {0}) c.args.cluster.now c.stop.new.self c.args.clients.now records (ap log_of c.in-Err.ensures.err)
+returns-in-Err g c = λ records. same_breaks g.C.Conduct.stands (tabled g.C.Conduct.begins g.C.Conduct.goes) (Unit {0}) (FirstOfEvent (size_of c.args.cluster.now) (Stop c.args.brick)) c.args.cluster.now c.stop.new.self c.args.clients.now records (λ p. tt) (ap log_of c.in-Err.ensures.err)

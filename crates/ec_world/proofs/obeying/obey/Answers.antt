@@ -5,9 +5,9 @@ use Rattle.ec_clients.specs.declared.options.Options.{Options}
 use Rattle.ec_cluster.specs.Views.{size_of}
 use Rattle.ec_wire.specs.declared.event.Event.TheVariants.{Call, Cut, Deliver, Die, GiveUp, Lose, Return, Stop, Tear, Until, Yield}
 use Rattle.ec_world.specs.Refusals.{IsWrongVia, call_refusal, deliver_refusal, die_refusal, give_up_refusal, lose_refusal, return_refusal, stop_refusal, tear_refusal, until_refusal, yield_refusal}
-use Rattle.ec_world.specs.Events.{OfEvent}
+use Rattle.ec_world.specs.Events.{FirstOfEvent, OfEvent}
 use Rattle.ec_world.specs.World.{OfUntil}
-use Rattle.ec_world.proofs.Becoming.{stepped_as}
+use Rattle.ec_world.proofs.Becoming.{stepped_by}
 use Rattle.ec_world.proofs.Outcomes.{refuses_same, store_outcome, told_outcome}
 use Rattle.ec_world.proofs.obeying.obey.Goals as goal
 
@@ -39,7 +39,7 @@ pub returns-in-Tear-clause-outcome : goal.returns-in-Tear-clause-outcome
 returns-in-Tear-clause-outcome g c = store_outcome g.C.Conduct.stands (tabled g.C.Conduct.begins g.C.Conduct.goes) (list_all g.S.BrickStore.told c.args.stores.now ≡ true) (Tear c.in-Tear.which c.in-Tear.bytes) c.args.event.now c.in-Tear.is c.args.cluster.now c.tear.new.cluster c.args.clients.now c.args.clients.now (map g.S.BrickStore.records c.args.stores.now) (map g.S.BrickStore.records c.tear.new.stores) (tear_refusal c.args.cluster.now c.in-Tear.which c.find-named-in-Tear.result c.in-Tear.bytes) c.tear.result (c.find-named-in-Tear.result, c.find-named-in-Tear.ensures.found, refl) c.tear.ensures.stepped
 
 pub returns-in-Yield-clause-outcome : goal.returns-in-Yield-clause-outcome
-returns-in-Yield-clause-outcome g c = store_outcome g.C.Conduct.stands (tabled g.C.Conduct.begins g.C.Conduct.goes) (list_all g.S.BrickStore.told c.args.stores.now ≡ true) (Yield c.in-Yield.client) c.args.event.now c.in-Yield.is c.args.cluster.now c.args.cluster.now c.args.clients.now c.args.clients.now (map g.S.BrickStore.records c.args.stores.now) (map g.S.BrickStore.records c.args.stores.now) (yield_refusal c.args.clients.now c.in-Yield.client) (Err c.yield_grants.result) refl (refuses_same g.C.Conduct.stands (tabled g.C.Conduct.begins g.C.Conduct.goes) (list_all g.S.BrickStore.told c.args.stores.now ≡ true) c.args.cluster.now c.args.clients.now (map g.S.BrickStore.records c.args.stores.now) (yield_refusal c.args.clients.now c.in-Yield.client) c.yield_grants.result (sym c.yield_grants.ensures))
+returns-in-Yield-clause-outcome g c = store_outcome g.C.Conduct.stands (tabled g.C.Conduct.begins g.C.Conduct.goes) (list_all g.S.BrickStore.told c.args.stores.now ≡ true) (Yield c.in-Yield.client) c.args.event.now c.in-Yield.is c.args.cluster.now c.args.cluster.now c.args.clients.now c.args.clients.now (map g.S.BrickStore.records c.args.stores.now) (map g.S.BrickStore.records c.args.stores.now) (yield_refusal c.args.clients.now c.in-Yield.client) (Err c.yield_grants.result) refl (refuses_same g.C.Conduct.stands (tabled g.C.Conduct.begins g.C.Conduct.goes) (list_all g.S.BrickStore.told c.args.stores.now ≡ true) (FirstOfEvent (size_of c.args.cluster.now) (Yield c.in-Yield.client)) c.args.cluster.now c.args.clients.now (map g.S.BrickStore.records c.args.stores.now) (yield_refusal c.args.clients.now c.in-Yield.client) (λ p. tt) c.yield_grants.result (sym c.yield_grants.ensures))
 
 pub returns-in-Until-clause-outcome : goal.returns-in-Until-clause-outcome
-returns-in-Until-clause-outcome g c = store_outcome g.C.Conduct.stands (tabled g.C.Conduct.begins g.C.Conduct.goes) (list_all g.S.BrickStore.told c.args.stores.now ≡ true) (Until c.in-Until.client c.in-Until.phase) c.args.event.now c.in-Until.is c.args.cluster.now c.until.new.cluster c.args.clients.now c.until.new.clients (map g.S.BrickStore.records c.args.stores.now) (map g.S.BrickStore.records c.until.new.stores) (until_refusal c.args.clients.now c.in-Until.client) c.until.result refl (stepped_as g.C.Conduct.stands (tabled g.C.Conduct.begins g.C.Conduct.goes) (list_all g.S.BrickStore.told c.args.stores.now ≡ true) (list_all g.S.BrickStore.told c.args.stores.now ≡ true) (OfUntil g.C.Conduct.stands (tabled g.C.Conduct.begins g.C.Conduct.goes) g.C.Conduct.stage g.C.Conduct.phase_of (size_of c.args.cluster.now) c.args.clients.now c.in-Until.client c.in-Until.phase) (OfEvent (size_of c.args.cluster.now) (Until c.in-Until.client c.in-Until.phase)) c.args.cluster.now c.until.new.cluster c.args.clients.now c.until.new.clients (map g.S.BrickStore.records c.args.stores.now) (map g.S.BrickStore.records c.until.new.stores) (λ t. t) (λ p steps h m x. x.0) (until_refusal c.args.clients.now c.in-Until.client) (until_refusal c.args.clients.now c.in-Until.client) (λ e. e) (λ e y. y) c.until.result c.until.ensures.stepped)
+returns-in-Until-clause-outcome g c = store_outcome g.C.Conduct.stands (tabled g.C.Conduct.begins g.C.Conduct.goes) (list_all g.S.BrickStore.told c.args.stores.now ≡ true) (Until c.in-Until.client c.in-Until.phase) c.args.event.now c.in-Until.is c.args.cluster.now c.until.new.cluster c.args.clients.now c.until.new.clients (map g.S.BrickStore.records c.args.stores.now) (map g.S.BrickStore.records c.until.new.stores) (until_refusal c.args.clients.now c.in-Until.client) c.until.result refl (stepped_by g.C.Conduct.stands (tabled g.C.Conduct.begins g.C.Conduct.goes) (list_all g.S.BrickStore.told c.args.stores.now ≡ true) (list_all g.S.BrickStore.told c.args.stores.now ≡ true) (OfUntil g.C.Conduct.stands (tabled g.C.Conduct.begins g.C.Conduct.goes) g.C.Conduct.stage g.C.Conduct.phase_of (size_of c.args.cluster.now) c.args.clients.now c.in-Until.client c.in-Until.phase) (OfEvent (size_of c.args.cluster.now) (Until c.in-Until.client c.in-Until.phase)) (OfUntil g.C.Conduct.stands (tabled g.C.Conduct.begins g.C.Conduct.goes) g.C.Conduct.stage g.C.Conduct.phase_of (size_of c.args.cluster.now) c.args.clients.now c.in-Until.client c.in-Until.phase) (FirstOfEvent (size_of c.args.cluster.now) (Until c.in-Until.client c.in-Until.phase)) c.args.cluster.now c.until.new.cluster c.args.clients.now c.until.new.clients (map g.S.BrickStore.records c.args.stores.now) (map g.S.BrickStore.records c.until.new.stores) (λ t. t) (λ p steps h m x. x.0) (λ p steps h m x. x.0) (until_refusal c.args.clients.now c.in-Until.client) (until_refusal c.args.clients.now c.in-Until.client) (λ e. e) (λ e y. y) c.until.result c.until.ensures.stepped)

@@ -1,16 +1,16 @@
-use Rattle.std.proofs.Common.{Bool, refl, subst, sym, true, ◌∙◌, ◌≡◌, map}
+use Rattle.std.proofs.Common.{ap, arith, Bool, length, List, refl, subst, sym, true, ◌∙◌, ◌≡◌, map}
 use Rattle.std.specs.List.{list_all}
 use Rattle.ec_clients.specs.Calls.{tabled}
 use Rattle.ec_clients.specs.Come.{come}
 use Rattle.ec_history.specs.Script.{IsSettling, Settles, entries_of}
-use Rattle.ec_clients.proofs.Goings.{stands_now}
 use Rattle.ec_cluster.specs.Views.{size_of}
+use Rattle.ec_wire.specs.declared.entry.Entry.{Entry}
 use Rattle.ec_wire.specs.declared.event.Event.TheVariants.{Settle}
 use Rattle.ec_world.specs.Events.{OfEvent}
 use Rattle.ec_world.specs.Settling.{GoesOn}
-use Rattle.ec_world.specs.Steps.{OneStep}
+use Rattle.ec_world.specs.Steps.{NoneOr, OneStep}
 use Rattle.ec_world.proofs.Becoming.{advances_as, breaks_as}
-use Rattle.ec_world.proofs.Chaining.{chain_breaks, chained, no_steps, rested, same_end, settles_more, stopped}
+use Rattle.ec_world.proofs.Chaining.{chain_breaks, chained, no_steps, rested, same_end, settles_more, settles_part}
 use Rattle.ec_world.proofs.settling.settle.Goals as goal
 
 pub loop-init : goal.loop-init
@@ -37,11 +37,12 @@ loop-preserved g c = record {
 }
 
 pub returns-in-Err-clause-stepped : goal.returns-in-Err-clause-stepped
-returns-in-Err-clause-stepped g c = chain_breaks g.C.Conduct.stands (tabled g.C.Conduct.begins g.C.Conduct.goes) (list_all g.S.BrickStore.told c.args.stores.now ≡ true) (λ p steps. Settles p.net steps) c.args.cluster.now c.loop.cluster c.settle_step.new.cluster c.args.clients.now c.loop.clients (map g.S.BrickStore.records c.args.stores.now) (map g.S.BrickStore.records c.loop.stores) (map g.S.BrickStore.records c.settle_step.new.stores) c.loop.invariant.adv
-    (breaks_as g.C.Conduct.stands (tabled g.C.Conduct.begins g.C.Conduct.goes) (list_all g.S.BrickStore.told c.loop.stores ≡ true) _ (OneStep IsSettling) (OneStep IsSettling) c.loop.cluster c.settle_step.new.cluster c.loop.clients c.settle_step.new.clients (map g.S.BrickStore.records c.loop.stores) (map g.S.BrickStore.records c.settle_step.new.stores) (λ t. c.loop.invariant.tells ∙ t) (λ p steps h m x. x) c.in-Err.ensures.err)
+returns-in-Err-clause-stepped g c = chain_breaks g.C.Conduct.stands (tabled g.C.Conduct.begins g.C.Conduct.goes) (list_all g.S.BrickStore.told c.args.stores.now ≡ true) (λ p steps. Settles p.net steps) (NoneOr (OneStep IsSettling)) (λ p steps. Settles p.net steps) c.args.cluster.now c.loop.cluster c.settle_step.new.cluster c.args.clients.now c.loop.clients (map g.S.BrickStore.records c.args.stores.now) (map g.S.BrickStore.records c.loop.stores) (map g.S.BrickStore.records c.settle_step.new.stores) c.loop.invariant.adv
+    (breaks_as g.C.Conduct.stands (tabled g.C.Conduct.begins g.C.Conduct.goes) (list_all g.S.BrickStore.told c.loop.stores ≡ true) _ (NoneOr (OneStep IsSettling)) (NoneOr (OneStep IsSettling)) c.loop.cluster c.settle_step.new.cluster c.loop.clients c.settle_step.new.clients (map g.S.BrickStore.records c.loop.stores) (map g.S.BrickStore.records c.settle_step.new.stores) (λ t. c.loop.invariant.tells ∙ t) (λ p steps h m x. x) c.in-Err.ensures.err)
+    (λ p xs ys x y. settles_part c.args.clients.now.options.geometry p xs ys x y)
 
-pub returns-clause-stepped : goal.returns-clause-stepped
-returns-clause-stepped g c = stopped g.C.Conduct.stands (tabled g.C.Conduct.begins g.C.Conduct.goes) (list_all g.S.BrickStore.told c.args.stores.now ≡ true) (λ p steps. Settles p.net steps) c.args.cluster.now c.loop.cluster c.args.clients.now c.loop.clients (map g.S.BrickStore.records c.args.stores.now) (map g.S.BrickStore.records c.loop.stores) c.loop.invariant.adv (λ p m. stands_now c.loop.cluster (map g.S.BrickStore.records c.loop.stores) p.net m)
+pub loop-smaller : goal.loop-smaller
+loop-smaller g c = omega (arith, c.len.ensures, ap (λ (l : List Entry). length l) c.log.ensures, c.in-Ok-true.ensures.grows c.in-Ok-true.field-0-test)
 
 pub returns-in-Ok-false-clause-stepped : goal.returns-in-Ok-false-clause-stepped
 returns-in-Ok-false-clause-stepped g c =

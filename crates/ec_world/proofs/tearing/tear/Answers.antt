@@ -1,17 +1,19 @@
 use Rattle.std.proofs.Common.{Some, ap, map, refl, subst, sym, ◌∙◌, ◌≡◌, true}
 use Rattle.ec_clients.specs.Calls.{tabled}
-use Rattle.ec_cluster.specs.Views.{is_up_at}
+use Rattle.ec_cluster.specs.Views.{is_up_at, size_of}
+use Rattle.ec_history.specs.Script.{Names}
+use Rattle.ec_world.specs.Events.{FirstOfEvent}
 use Rattle.ec_wire.specs.declared.event.Event.TheVariants.{Tear}
 use Rattle.ec_world.specs.Refusals.{IsFound, tear_refusal}
 use Rattle.ec_world.specs.Steps.{IsTear}
 use Rattle.ec_world.proofs.Advancing.{cluster_breaks, same_breaks, tears_advances}
-use Rattle.ec_world.proofs.Becoming.{event_advances}
+use Rattle.ec_world.proofs.Becoming.{event_advances, named_breaks}
 use Rattle.ec_world.proofs.Naming.{named_is, names_tear}
 use Rattle.ec_world.proofs.Permitting.{may_tear}
 use Rattle.ec_world.proofs.tearing.tear.Goals as goal
 
 pub returns-then-bytes-gt4294967295-clause-stepped : goal.returns-then-bytes-gt4294967295-clause-stepped
-returns-then-bytes-gt4294967295-clause-stepped g c = same_breaks g.C.Conduct.stands (tabled g.C.Conduct.begins g.C.Conduct.goes) _ c.args.cluster.now c.args.cluster.now c.args.clients.now (map g.S.BrickStore.records c.args.stores.now) refl
+returns-then-bytes-gt4294967295-clause-stepped g c = same_breaks g.C.Conduct.stands (tabled g.C.Conduct.begins g.C.Conduct.goes) _ (FirstOfEvent (size_of c.args.cluster.now) (Tear c.args.which c.args.bytes)) c.args.cluster.now c.args.cluster.now c.args.clients.now (map g.S.BrickStore.records c.args.stores.now) (λ p. tt) refl
 
 pub returns-in-Ok-clause-stepped : goal.returns-in-Ok-clause-stepped
 returns-in-Ok-clause-stepped g c = (
@@ -22,4 +24,4 @@ returns-in-Ok-clause-stepped g c = (
 )
 
 pub returns-in-Err-clause-stepped : goal.returns-in-Err-clause-stepped
-returns-in-Err-clause-stepped g c = cluster_breaks g.C.Conduct.stands (tabled g.C.Conduct.begins g.C.Conduct.goes) _ c.args.cluster.now c.tear.new.self c.args.clients.now (map g.S.BrickStore.records c.args.stores.now) (map g.S.BrickStore.records c.tear.new.stores) c.in-Err.ensures.err
+returns-in-Err-clause-stepped g c = named_breaks g.C.Conduct.stands (tabled g.C.Conduct.begins g.C.Conduct.goes) _ (Tear c.args.which c.args.bytes) c.args.cluster.now c.tear.new.self c.args.clients.now c.args.clients.now (map g.S.BrickStore.records c.args.stores.now) (map g.S.BrickStore.records c.tear.new.stores) (cluster_breaks g.C.Conduct.stands (tabled g.C.Conduct.begins g.C.Conduct.goes) _ (λ e. ⊥) (λ m e. Names m (Tear c.args.which c.args.bytes) e) c.args.cluster.now c.tear.new.self c.args.clients.now (map g.S.BrickStore.records c.args.stores.now) (map g.S.BrickStore.records c.tear.new.stores) (λ m e is. absurd is) c.in-Err.ensures.err)

@@ -1,4 +1,4 @@
-use Rattle.std.proofs.Common.{◌≡◌, ◌∙◌, ap, subst, sym, map, length, true, List}
+use Rattle.std.proofs.Common.{arith, ◌≡◌, ◌∙◌, ap, subst, sym, map, length, true, List}
 use Rattle.std.specs.List.{list_all}
 use Rattle.ec_attr.specs.declared.config.Config.{Config}
 use Rattle.ec_calls.specs.declared.any.AnyCall.{AnyCall}
@@ -6,7 +6,7 @@ use Rattle.ec_clients.specs.Beginning.{HasClients}
 use Rattle.ec_clients.specs.declared.clients.Clients.{Clients}
 use Rattle.ec_clients.specs.declared.options.Options.{Options}
 use Rattle.ec_cluster.specs.Matches.{Matches}
-use Rattle.ec_cluster.specs.Open.{AreRooted, AreUnused, IsAfterTaken, opened}
+use Rattle.ec_cluster.specs.Open.{AreAccepted, AreRooted, AreUnused, IsAfterTaken, opened}
 use Rattle.ec_history.specs.Run.{fresh}
 use Rattle.ec_store.specs.Records.{Records}
 use Rattle.ec_world.proofs.Whole.{begun_as, begun_world}
@@ -53,3 +53,12 @@ returns-in-Err-open-clause-kept g c = λ told.
     let before = map g.S.BrickStore.records c.args.stores.now in
     let after = map g.S.BrickStore.records c.open.new.stores in
     subst (λ (k : Config). ¬ (AreUnused k (length c.args.stores.now) before) → after ≡ before) c.config_of.ensures (c.in-Err-open.ensures.kept told)
+
+pub returns-in-Err-clause-first : goal.returns-in-Err-clause-first
+returns-in-Err-clause-first g c = λ told b r lt at. absurd (omega (arith, lt))
+
+pub returns-in-Err-open-clause-first : goal.returns-in-Err-open-clause-first
+returns-in-Err-open-clause-first g c = λ told. subst (λ (k : Config). AreAccepted k c.in-Err-open.e.0 (map g.S.BrickStore.records c.args.stores.now)) c.config_of.ensures (c.in-Err-open.ensures.first told)
+
+pub returns-in-Ok-open-clause-accepted : goal.returns-in-Ok-open-clause-accepted
+returns-in-Ok-open-clause-accepted g c = λ told. subst (λ (k : Config). AreAccepted k (length c.args.stores.now) (map g.S.BrickStore.records c.args.stores.now)) c.config_of.ensures (c.in-Ok-open.ensures.accepted told)

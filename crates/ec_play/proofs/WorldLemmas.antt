@@ -12,13 +12,13 @@ use Rattle.ec_conduct.specs.Given.{Given}
 use Rattle.ec_conduct.specs.Own.{Own}
 use Rattle.ec_history.specs.IsRun.{IsRun}
 use Rattle.ec_history.specs.Run.{Net, run}
-use Rattle.ec_history.specs.Script.{IsOfEvent, entries_of}
+use Rattle.ec_history.specs.Script.{IsOfEvent, Step, entries_of}
 use Rattle.ec_script.specs.Printed.{IsEvent}
 use Rattle.ec_store.specs.Records.{Records}
 use Rattle.ec_txn.specs.declared.ctx.Ctx.{Ctx}
 use Rattle.ec_wire.specs.declared.event.Event.{Event}
 use Rattle.ec_wire.specs.declared.event.Event.TheVariants as event
-use Rattle.ec_world.specs.Events.{Advances, Breaks as BreaksIn, OfEvent, Stepped}
+use Rattle.ec_world.specs.Events.{Advances, Breaks as BreaksIn, FirstOfEvent, OfEvent, Stepped}
 use Rattle.ec_world.specs.Refusals.{IsRefusal}
 use Rattle.ec_world.specs.Whole.{IsAs, IsNotBuilt, IsOpen, IsUnbuilt, StaysOpen, Steps as StepsOf}
 use Rattle.ec_world.specs.World.{FitsEvent}
@@ -60,19 +60,19 @@ module _ (stands : Ctx → Given → AnyCall → List Own → Type 0) (by_table 
   }
 
   -- an event that ends for want of memory
-  world_breaks : (Told : Type 0) (s t : World) (before after : List Records) → t.bricks ≡ s.bricks
-      → BreaksIn stands by_table Told s.cluster t.cluster s.clients before after
+  world_breaks : (Told : Type 0) (First : Come → List Step → Type 0) (s t : World) (before after : List Records) → t.bricks ≡ s.bricks
+      → BreaksIn stands by_table Told First s.cluster t.cluster s.clients before after
       → Breaks (meaning_of stands by_table) Told s t before after
-  world_breaks Told s t before after same x = record {
-    entries = x.entries;
+  world_breaks Told First s t before after same x = record {
+    entries = entries_of x.steps;
     goes_on = x.log;
     bricks = same;
     runs = λ told m at.
         let p : Come = at.is_as.come in
-        let went : IsRun (size_of s.cluster) x.entries p.net × StandsAs (size_of s.cluster) after (come s.clients.options.geometry x.entries p).net = x.runs told p at.is_as.sees (subst (λ (net : Net). Matches s.cluster before net) (sym at.is_as.net) at.is_as.matches) in
-        let net : (come s.clients.options.geometry x.entries p).net ≡ run x.entries m = net_is s.clients.options.geometry x.entries p ∙ ap (run x.entries) at.is_as.net in (
-          subst (λ (n : ℕ). IsRun n x.entries m) at.size (subst (λ (m : Net). IsRun (size_of s.cluster) x.entries m) at.is_as.net went.0),
-          subst (λ (n : ℕ). StandsAs n after (run x.entries m)) at.size (subst (λ (m : Net). StandsAs (size_of s.cluster) after m) net went.1),
+        let went : IsRun (size_of s.cluster) (entries_of x.steps) p.net × StandsAs (size_of s.cluster) after (come s.clients.options.geometry (entries_of x.steps) p).net × First p x.steps = x.runs told p at.is_as.sees (subst (λ (net : Net). Matches s.cluster before net) (sym at.is_as.net) at.is_as.matches) in
+        let net : (come s.clients.options.geometry (entries_of x.steps) p).net ≡ run (entries_of x.steps) m = net_is s.clients.options.geometry (entries_of x.steps) p ∙ ap (run (entries_of x.steps)) at.is_as.net in (
+          subst (λ (n : ℕ). IsRun n (entries_of x.steps) m) at.size (subst (λ (m : Net). IsRun (size_of s.cluster) (entries_of x.steps) m) at.is_as.net went.0),
+          subst (λ (n : ℕ). StandsAs n after (run (entries_of x.steps) m)) at.size (subst (λ (m : Net). StandsAs (size_of s.cluster) after m) net went.1),
         );
   }
 
@@ -102,10 +102,10 @@ module _ (stands : Ctx → Given → AnyCall → List Own → Type 0) (by_table 
 
   world_stepped : (Told : Type 0) (e : Event) (s t : World) (before after : List Records) (result : Result (Unit {0}) Refused) → t ≡ record s { clients = t.clients; cluster = t.cluster }
       → ¬ (IsUnbuilt e) → (o : Option Refused) → IsRefusal stands s.cluster s.clients e o
-      → Stepped stands by_table Told (OfEvent (size_of s.cluster) e) s.cluster t.cluster s.clients t.clients before after o result → StaysOpen stands by_table t result
+      → Stepped stands by_table Told (OfEvent (size_of s.cluster) e) (FirstOfEvent (size_of s.cluster) e) s.cluster t.cluster s.clients t.clients before after o result → StaysOpen stands by_table t result
       → Steps (meaning_of stands by_table) Told s t before after e result
   world_stepped Told e s t before after (Ok x) same built o r h stays = world_does Told e s t before after (same_bricks s t same) stays h.1
-  world_stepped Told e s t before after (Err refused.NoMemory) same built o r h stays = world_breaks Told s t before after (same_bricks s t same) h
+  world_stepped Told e s t before after (Err refused.NoMemory) same built o r h stays = world_breaks Told (FirstOfEvent (size_of s.cluster) e) s t before after (same_bricks s t same) h
   world_stepped Told e s t before after (Err (refused.NoMessage n)) same built o r h stays = world_refuses Told e (refused.NoMessage n) s t before after same built o r h
   world_stepped Told e s t before after (Err (refused.NoneBetween x y)) same built o r h stays = world_refuses Told e (refused.NoneBetween x y) s t before after same built o r h
   world_stepped Told e s t before after (Err (refused.Busy n)) same built o r h stays = world_refuses Told e (refused.Busy n) s t before after same built o r h

@@ -190,7 +190,7 @@ fn a_store_fails_at_any_call(rt: HostRuntime) -> Result<(), Fail> {
             (9, false, false),
         ] {
             assert_eq!(rt;
-                brick.index.has(Gfid(gfid)),
+                brick.index().has(Gfid(gfid)),
                 if failed { old } else { new },
                 "gfid {gfid}"
             );

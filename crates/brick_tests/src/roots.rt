@@ -46,7 +46,7 @@ fn gfids_are_forgotten(rt: HostRuntime) -> Result<(), Fail> {
         assert_eq!(rt; brick.open_store(&mut store), Ok(Some(Gfid(9))));
         brick.forget(upto.map(Gfid));
         for (gfid, there) in [2, 5, 9].into_iter().zip(wanted) {
-            assert_eq!(rt; brick.index.has(Gfid(gfid)), there);
+            assert_eq!(rt; brick.index().has(Gfid(gfid)), there);
         }
     }
     Ok(())

@@ -28,8 +28,8 @@ pub turns_as : {P Q : Type 0} (f : P → Q) (begins : Given → Step P → Type 
     → ((given : Given) (step : Step P) → begins given step → begins' given (step_as f step)) → ((p : P) (c : Account) (step : Step P) → goes p c step → goes' (f p) c (step_as f step))
     → (given : Given) (ts : List (Turned P)) (es : List Own) (stage : Option P) → IsByTurns begins goes given ts es stage → IsByTurns begins' goes' given (map (turn_as f) ts) es (option_map f stage)
 turns_as f begins goes begins' goes' b g given [] es stage (i, step, begun, entries, is) = (i, step_as f step, b given step begun, entries, ap (option_map f) is)
-turns_as f begins goes begins' goes' b g given (t ∷ ts) es stage (earlier, before, by, went, entries, is) =
-    (earlier, f before, turns_as f begins goes begins' goes' b g given ts earlier (Some before) by, g before (after (account given earlier) t.what) t.step went, entries, ap (option_map f) is)
+turns_as f begins goes begins' goes' b g given (t ∷ ts) es stage (earlier, before, by, outside, went, entries, is) =
+    (earlier, f before, turns_as f begins goes begins' goes' b g given ts earlier (Some before) by, outside, g before (after (account given earlier) t.what) t.step went, entries, ap (option_map f) is)
 
 pub table_as : {P Q : Type 0} (f : P → Q) (begins : Given → Step P → Type 0) (goes : P → Account → Step P → Type 0) (begins' : Given → Step Q → Type 0) (goes' : Q → Account → Step Q → Type 0)
     → ((given : Given) (step : Step P) → begins given step → begins' given (step_as f step)) → ((p : P) (c : Account) (step : Step P) → goes p c step → goes' (f p) c (step_as f step))

@@ -18,7 +18,7 @@ use Rattle.ec_conduct.proofs.Parts.{cached_allowed, part_allowed}
 use Rattle.ec_conduct.proofs.Plain.{alone, late, other, renamed, silent}
 use Rattle.ec_conduct.proofs.Refusals.{answered_allowed, faulted_refused, low_dirty_refused, other_dirty_refused, other_version_refused, partly_posted_refused, sink_allowed, sink_pre_allowed, sink_unclear_refused, sinks_no_quorum_refused, stale_refused, twice_refused, unfinished_refused, unlocked_refused, unmarked_pre_refused, unmarked_sink_refused, unposted_refused, unread_refused}
 use Rattle.ec_conduct.proofs.NoQuorums.{begins_anew, sinks_uncounted, enough_alike, enough_done, few_done, not_asked}
-use Rattle.ec_conduct.proofs.Steps.{step_account, step_keeps}
+use Rattle.ec_conduct.proofs.Steps.{no_sends_apart, step_account, step_keeps}
 use Rattle.ec_conduct.proofs.Setattr.{setattr_keeps}
 use Rattle.ec_conduct.proofs.Writes.{write_keeps}
 
@@ -113,7 +113,7 @@ on_kept : KeptLaws
 on_kept = record { fits = kept_fits; goes_on = kept_goes_on; anew = kept_anew; leaves = write_leaves; too_early = write_too_early; stripe = own_stripe_left; other_stripe = other_stripe_refused; still_kept = kept_locked; no_query = kept_query }
 
 steps : StepLaws
-steps = record { keeps = step_keeps; releases = refl; account_is = step_account }
+steps = record { keeps = step_keeps; releases = refl; account_is = step_account; no_sends_apart = no_sends_apart }
 
 no_quorum : NoQuorumLaws
 no_quorum = record { few = few_done; enough = enough_done; sinks = sinks_uncounted; on_kept = begins_anew; alike = enough_alike; unasked = not_asked }

@@ -29,8 +29,8 @@ use Rattle.ec_conduct.specs.Locks.{IsAsked}
 use Rattle.ec_conduct.specs.Opened.{account, opened}
 use Rattle.ec_conduct.specs.Phases.{HasNoQuorum}
 use Rattle.ec_conduct.specs.Standing.{is_lost}
-use Rattle.ec_conduct.specs.Table.{AllMay, MayEnd, Send, entries_of, last_sends, sent_all, to_bricks, with_answer}
-use Rattle.ec_conduct.specs.Own.{Own, Hears, GivesUp, Answers}
+use Rattle.ec_conduct.specs.Table.{AllMay, IsByTurns, MayEnd, Send, Step, Turned, entries_of, last_sends, sent_all, to_bricks, with_answer}
+use Rattle.ec_conduct.specs.Own.{Own, Sends, Hears, GivesUp, Answers}
 
 -- for every history
 pub record GeneralLaws : Type 0 where
@@ -90,6 +90,13 @@ pub record ChangeLaws : Type 0 where
   pub old_directory : are (rename_tests 1 1 name_f 3 name_g new_child) (set_of name_f None ∷ []) ≡ true
   pub new_directory : are (rename_tests 1 3 name_f 1 name_g new_child) (set_of name_g (Some new_child) ∷ []) ≡ true
 
+-- a table of which each step may be anything
+abbrev pub any_first : Given → Step ℕ → Type 0
+any_first given step = Unit {0}
+
+abbrev pub any_step : ℕ → Account → Step ℕ → Type 0
+any_step stage c step = Unit {0}
+
 -- of the steps by which tables are run
 pub record StepLaws : Type 0 where
   -- where each send and the answer keep the conduct, so do the entries of the step, and the account is the step's
@@ -97,6 +104,8 @@ pub record StepLaws : Type 0 where
   -- a call that ends releases all: bricks rising, at each the content's lock before the heal's
   pub releases : last_sends (account (begun (Heal file)) (begun_heal later_file)) None ≡ to_bricks 3 (λ b. Release file (7 + b + b) ∷ Release file (1 + b + b) ∷ [])
   pub account_is : (c : Account) (i : ℕ) (sends : List Send) (answer : Option Answer) → account_from c (entries_of i sends answer) ≡ with_answer (sent_all c i sends) answer
+  -- where a table lets a step be anything, a turn still begins with no send: a call sends nothing outside its steps
+  pub no_sends_apart : (given : Given) (t : Turned ℕ) (ts : List (Turned ℕ)) (es : List Own) (stage : Option ℕ) → IsByTurns any_first any_step given (t ∷ ts) es stage → (b i : ℕ) (r : Request) → t.what ≢ Sends b i r
 
 -- when no quorum answered
 pub record NoQuorumLaws : Type 0 where

@@ -9,7 +9,7 @@ use Rattle.ec_conduct.specs.Conduct.{MayAnswer, MaySend}
 use Rattle.ec_conduct.specs.Given.{Given, bricks_of}
 use Rattle.ec_conduct.specs.Leaves.{is_kept}
 use Rattle.ec_conduct.specs.Opened.{account}
-use Rattle.ec_conduct.specs.Own.{Own, Sends, Answers}
+use Rattle.ec_conduct.specs.Own.{Own, Sends, Hears, GivesUp, Answers}
 use Rattle.ec_conduct.specs.declared.kept.Kept.{Kept}
 
 -- a brick and the request that goes to it
@@ -68,17 +68,25 @@ pub record Turned (P : Type 0) : Type 0 where
   pub number : ℕ
   pub step : Step P
 
+-- it comes from outside: the call heard it, or was told to wait no more
+abbrev pub IsFromOutside : Own → Type 0
+IsFromOutside (Sends b i r) = ⊥
+IsFromOutside (Hears b i reply) = Unit {0}
+IsFromOutside (GivesUp b i) = Unit {0}
+IsFromOutside (Answers answer) = ⊥
+
 -- How a call begins by its table: with a step.
 abbrev pub BeganByTable : {P : Type 0} → (Given → Step P → Type 0) → Given → List Own → Option P → Type 0
 BeganByTable {P} begins given es stage = (i : ℕ) × (step : Step P) × begins given step × (es ≡ step_entries i step) × (stage ≡ step.stage)
 
 -- Own entries of a call are by its table. `begins` tells its first step, and `goes` the step of a call in a stage whose
--- account has become this by a reply or a giving up. The turns are the last first; `stage` is that in the end.
+-- account has become this by a reply or a giving up, and by nothing else: a call sends in steps alone. The turns are the
+-- last first; `stage` is that in the end.
 abbrev pub IsByTurns : {P : Type 0} → (Given → Step P → Type 0) → (P → Account → Step P → Type 0) → Given → List (Turned P) → List Own → Option P → Type 0
 IsByTurns begins goes given [] es stage = BeganByTable begins given es stage
 IsByTurns {P} begins goes given (t ∷ ts) es stage =
     (earlier : List Own) × (before : P) × IsByTurns begins goes given ts earlier (Some before)
-    × goes before (after (account given earlier) t.what) t.step
+    × IsFromOutside t.what × goes before (after (account given earlier) t.what) t.step
     × (es ≡ earlier ++ t.what ∷ step_entries t.number t.step) × (stage ≡ t.step.stage)
 
 abbrev pub IsByTable : {P : Type 0} → (Given → Step P → Type 0) → (P → Account → Step P → Type 0) → Given → List Own → Option P → Type 0

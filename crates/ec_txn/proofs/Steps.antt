@@ -10,7 +10,7 @@ use Rattle.ec_conduct.specs.Conduct.{IsEarned, Keeps, KeepsFrom, May, MayAnswer}
 use Rattle.ec_conduct.specs.Given.{Given, bricks_of}
 use Rattle.ec_conduct.specs.Opened.{account, kept_dealings, kept_gfids, no_place as no_place_of, opened}
 use Rattle.ec_conduct.specs.Own.{Own, Sends, Hears, GivesUp, Answers}
-use Rattle.ec_conduct.specs.Table.{AllMay, IsByTable, MayEnd, Send, Step, Turned, entries_of, sent_all, with_answer}
+use Rattle.ec_conduct.specs.Table.{AllMay, IsByTable, IsFromOutside, MayEnd, Send, Step, Turned, entries_of, sent_all, with_answer}
 use Rattle.ec_conduct.proofs.Fronts.{account_append, join_from}
 use Rattle.ec_conduct.proofs.Steps.{step_account, step_keeps}
 use Rattle.ec_wire.specs.declared.answer.Answer.{Answer}
@@ -201,11 +201,11 @@ entries_join es fs e = append_assoc es (e ∷ []) fs
 
 module _ {P : Type 0} (x : Ctx) (t : Table P) (during : P → Account → Asks → Type 0) (sound : IsSound x t during) where
   pub adds : (given : Given) (fits fits' : Type 0) (ctx : Ctx) (gfid : ℕ) (old told new : Known) (p : P) (answer : Option Answer) (es : List Own) (what : Own) (c : Account)
-      → Stands x given fits t during ctx gfid old (Some p) answer es → fits' → after (account given es) what ≡ c → May (account given es) what
+      → Stands x given fits t during ctx gfid old (Some p) answer es → fits' → after (account given es) what ≡ c → IsFromOutside what → May (account given es) what
       → c.given ≡ given → InStage x given (during p) c → Shows (subject given.op) (bricks_of given) told c
       → (i : ℕ) (stage : Option P) (said : Option Answer) (sends : List Send) → TakesStep t p c i told new stage said sends → vec_len new.places ≡ vec_len told.places
       → Adds (Stands x given fits' t during ctx gfid new stage said) (bricks_of given) (es ++ what ∷ []) i sends said
-  adds given fits fits' ctx gfid old told new p answer es what c s f e m eg st sh i stage said sends k len =
+  adds given fits fits' ctx gfid old told new p answer es what c s f e outside m eg st sh i stage said sends k len =
       let g = subject given.op in
       let l = step_leaves x t during sound given i p c k.step eg st (past_unlocked g (bricks_of given) told c sh) k.goes in
       let good : AllGood g c i sends = subst (AllGood g c i) (sym k.sends_are) l.good in
@@ -234,6 +234,7 @@ module _ {P : Type 0} (x : Ctx) (t : Table P) (during : P → Account → Asks �
               es,
               p,
               s.by_table.1,
+              outside,
               subst (λ (z : Account). Goes t p z k.step) (sym e) k.goes,
               entries_join es fs what ∙ (λ j. es ++ what ∷ entries_of i (k.sends_are j) (k.answer_is j)),
               k.stage_is,

@@ -8,7 +8,7 @@ use Rattle.ec_conduct.specs.Given.{Given, bricks_of}
 use Rattle.ec_conduct.specs.Locks.{is_heal}
 use Rattle.ec_conduct.specs.Opened.{account, opened}
 use Rattle.ec_conduct.specs.Own.{Own, Sends, Hears, GivesUp, Answers}
-use Rattle.ec_conduct.specs.Table.{Send, to_bricks}
+use Rattle.ec_conduct.specs.Table.{IsFromOutside, Send, to_bricks}
 use Rattle.ec_store.specs.Put.{put}
 use Rattle.ec_wire.specs.declared.answer.Answer.{Answer}
 use Rattle.ec_wire.specs.declared.reply.Reply.{Reply}
@@ -111,10 +111,10 @@ module _ {P : Type 0} (tab : Ctx → Table P) (dur : Ctx → P → Account → A
     (goes : (p : P) (c : Account) → stage ≡ Some p → answer ≡ None → subject c.given.op ≡ gfid → Sees ctx fits told c → TakesStep (tab ctx) p c i told new stage' said sends × (answer' ≡ said))
     (same_ctx : ctx' ≡ ctx) (same_gfid : gfid' ≡ gfid) (same_fits : fits' ≡ fits) (same_len : vec_len new.places ≡ vec_len told.places) (same_told : new.replies ≡ told.replies) where
   turn : (x : Ctx) (given : Given) (es : List Own) (b : ℕ) (w : Wait) (what : Own) (c : Account) → Stands x given (fits given) (tab x) (dur x) ctx gfid old stage answer es → (account given es).waits b ≡ Some w
-      → after (account given es) what ≡ c → c.given ≡ (account given es).given → Rattle.ec_conduct.specs.Conduct.May (account given es) what → (vec_len told.places ≡ vec_len old.places) × (vec_len told.replies.items ≡ vec_len old.replies.items)
+      → after (account given es) what ≡ c → c.given ≡ (account given es).given → IsFromOutside what → Rattle.ec_conduct.specs.Conduct.May (account given es) what → (vec_len told.places ≡ vec_len old.places) × (vec_len told.replies.items ≡ vec_len old.replies.items)
       → ((p : P) → stage ≡ Some p → InStage x given (dur x p) (account given es) → InStage x given (dur x p) c × ShowsAll (subject given.op) (place_at told.places.items) c × TellsAll (subject given.op) (reply_at told.replies.items.items) c)
       → Adds (Stands x given (fits' given) (tab x) (dur x) ctx' gfid' new stage' answer') given.geometry.n (es ++ what ∷ []) i sends said
-  turn x given es b w what c s wait is g may len next = go stage refl
+  turn x given es b w what c s wait is g outside may len next = go stage refl
     where
       go : (o : Option P) → stage ≡ o → Adds (Stands x given (fits' given) (tab x) (dur x) ctx' gfid' new stage' answer') given.geometry.n (es ++ what ∷ []) i sends said
       go None e = absurd (no_wait w (sym (s.ended e b) ∙ wait))
@@ -133,7 +133,7 @@ module _ {P : Type 0} (tab : Ctx → Table P) (dur : Ctx → P → Account → A
           let step : TakesStep (tab x) p c i told new stage' said sends = subst (λ (z : Ctx). TakesStep (tab z) p c i told new stage' said sends) s.ctx_is k.0 in
           let s' : Stands x given (fits given) (tab x) (dur x) ctx gfid old (Some p) answer es = subst (λ (o : Option P). Stands x given (fits given) (tab x) (dur x) ctx gfid old o answer es) e s in
           let a : Adds (Stands x given (fits given) (tab x) (dur x) ctx gfid new stage' said) (bricks_of given) (es ++ what ∷ []) i sends said =
-          adds x (tab x) (dur x) (sound x) given (fits given) (fits given) ctx gfid old told new p answer es what c s' s.fit is may cg n.0 shows i stage' said sends step same_len in
+          adds x (tab x) (dur x) (sound x) given (fits given) (fits given) ctx gfid old told new p answer es what c s' s.fit is outside may cg n.0 shows i stage' said sends step same_len in
           subst (λ (f : Given → Type 0). Adds (Stands x given (f given) (tab x) (dur x) ctx' gfid' new stage' answer') given.geometry.n (es ++ what ∷ []) i sends said) (sym same_fits)
           (subst (λ (z : Ctx). Adds (Stands x given (fits given) (tab x) (dur x) z gfid' new stage' answer') given.geometry.n (es ++ what ∷ []) i sends said) (sym same_ctx)
           (subst (λ (z : ℕ). Adds (Stands x given (fits given) (tab x) (dur x) ctx z new stage' answer') given.geometry.n (es ++ what ∷ []) i sends said) (sym same_gfid)
@@ -153,7 +153,7 @@ module _ {P : Type 0} (tab : Ctx → Table P) (dur : Ctx → P → Account → A
       → Adds (Stands x given (fits' given) (tab x) (dur x) ctx' gfid' new stage' answer') given.geometry.n (es ++ Hears b w.number reply ∷ []) i sends said
   hears x given es b w reply s wait places len noted =
       let a = account given es in
-      turn x given es b w (Hears b w.number reply) (told_by a b w reply) s wait (heard_is a b w reply wait) (over_given a b (record { number = w.number; request = w.request; reply = Some reply })) tt len (λ p e st.
+      turn x given es b w (Hears b w.number reply) (told_by a b w reply) s wait (heard_is a b w reply wait) (over_given a b (record { number = w.number; request = w.request; reply = Some reply })) tt tt len (λ p e st.
       let o = over x given p a b w (Some reply) wait st in (
         o.0,
         subst (λ h. ShowsAll (subject given.op) h (told_by a b w reply)) (sym places) (told_shows (subject given.op) b (place_at old.places.items) a w reply wait o.1 s.shows.each),
@@ -166,7 +166,7 @@ module _ {P : Type 0} (tab : Ctx → Table P) (dur : Ctx → P → Account → A
       → Adds (Stands x given (fits' given) (tab x) (dur x) ctx' gfid' new stage' answer') given.geometry.n (es ++ GivesUp b w.number ∷ []) i sends said
   leaves x given es b w s wait places len noted =
       let a = account given es in
-      turn x given es b w (GivesUp b w.number) (gave_up a b w) s wait (left_is a b w wait) (over_given a b (record { number = w.number; request = w.request; reply = None })) tt len (λ p e st.
+      turn x given es b w (GivesUp b w.number) (gave_up a b w) s wait (left_is a b w wait) (over_given a b (record { number = w.number; request = w.request; reply = None })) tt tt len (λ p e st.
       let o = over x given p a b w None wait st in (
         o.0,
         subst (λ h. ShowsAll (subject given.op) h (gave_up a b w)) (sym places) (left_shows (subject given.op) b (place_at old.places.items) a w wait o.1 s.shows.each),

@@ -26,6 +26,13 @@ rose_later f h k le r = omega arith
 pub risen_before : (old mid now : List ℕ) (e : ℕ × StartFault) → AreLater old mid → HasRisen mid now e → HasRisen old now e
 risen_before old mid now e later h f = rose_later (slice_index old e.0) (slice_index mid e.0) (slice_index now e.0) (later e.0) (h f)
 
+-- no count falls
+pub later_none : (counts : List ℕ) → AreLater counts counts
+later_none counts c = omega arith
+
+pub later_then : (old mid now : List ℕ) → AreLater old mid → AreLater mid now → AreLater old now
+later_then old mid now h k c = let p : slice_index old c ≤ slice_index mid c = h c in let q : slice_index mid c ≤ slice_index now c = k c in omega (arith, p, q)
+
 module _ {S : Type 0} (faults : S → ℕ) (first stores : List S) (b : ℕ) (x y : S) (is : slice_get stores b ≡ Some x) where
   now_at : slice_index (map faults (set stores b y)) b ≡ faults y
   now_at = map_index faults (set stores b y) b y (set_at stores b y (slice_get_within stores b x is))

@@ -133,6 +133,7 @@ fn put_roots<S: BrickStore>(
     ensures roots { OnOk result (list_all S.told stores.old ≡ true → AreRooted config (length stores.old) (map S.records stores.old) (map S.records stores.new)) }
     ensures refused { IfErr result (λ e. (e.0 < length stores.old) × (is_of_store e.1 ≡ true)) }
     ensures part { IfErr result (λ e. list_all S.told stores.old ≡ true → AreRooted config e.0 (map S.records stores.old) (map S.records stores.new)) }
+    ensures later { AreLater (map S.faults stores.old) (map S.faults stores.new) }
     ensures cause { IfErr result (HasRisen (map S.faults stores.old) (map S.faults stores.new)) }
 {
     for b in 0..stores.len() {
@@ -185,7 +186,9 @@ impl Cluster {
         // With `next` the next gfid is the least one from 2 on that is above all that are taken.
         ensures after { IfOk result (λ r. list_all S.told stores.old ≡ true → IsAfterTaken (length stores.old) (map S.records stores.old) r.1) }
 
-        // Which head is refused: one of the first store that has such. A store that failed has counted it.
+        // Which head is refused: one of the first store that has such. A store that failed has counted it, and no count
+        // falls.
+        ensures later { AreLater (map S.faults stores.old) (map S.faults stores.new) }
         ensures head { IfErr result (λ e. list_all S.told stores.old ≡ true → IsFaultOf config (map S.records stores.old) e) }
         ensures first { IfErr result (λ e. list_all S.told stores.old ≡ true → AreAccepted config e.0 (map S.records stores.old)) }
         ensures accepted { OnOk result (list_all S.told stores.old ≡ true → AreAccepted config (length stores.old) (map S.records stores.old)) }

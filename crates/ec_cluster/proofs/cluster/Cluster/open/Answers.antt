@@ -3,7 +3,7 @@ use Rattle.std.proofs.Common.{arith, ◌<◌, ◌≡◌, ◌∙◌, true, length
 use Rattle.std.proofs.lemmas.List.{length-map}
 use Rattle.std.specs.List.{list_all}
 use Rattle.ec_cluster.proofs.Empty.{empty_matches, empty_sound, opened_as}
-use Rattle.ec_cluster.proofs.Risen.{risen_before}
+use Rattle.ec_cluster.proofs.Risen.{later_then, risen_before}
 use Rattle.ec_cluster.proofs.cluster.Cluster.open.Goals as goal
 
 pub returns-then-not-all-clause-sound : goal.returns-then-not-all-clause-sound
@@ -39,3 +39,9 @@ returns-in-Err-put_roots-clause-first g c = λ told b r lt at.
     let n : length c.open_all.new.stores ≡ length c.args.stores.now = c.open_all.auto.stores in
     let low : c.in-Err-put_roots.e.0 < length c.open_all.new.stores = c.in-Err-put_roots.ensures.refused.0 in
     c.in-Ok.ensures.accepted told b r (omega (arith, lt, low, n)) at
+
+pub returns-in-Ok-put_roots-clause-later : goal.returns-in-Ok-put_roots-clause-later
+returns-in-Ok-put_roots-clause-later g c = later_then (map g.S.BrickStore.faults c.args.stores.now) (map g.S.BrickStore.faults c.open_all.new.stores) (map g.S.BrickStore.faults c.put_roots.new.stores) c.open_all.ensures.later c.put_roots.ensures.later
+
+pub returns-in-Err-put_roots-clause-later : goal.returns-in-Err-put_roots-clause-later
+returns-in-Err-put_roots-clause-later g c = later_then (map g.S.BrickStore.faults c.args.stores.now) (map g.S.BrickStore.faults c.open_all.new.stores) (map g.S.BrickStore.faults c.put_roots.new.stores) c.open_all.ensures.later c.put_roots.ensures.later

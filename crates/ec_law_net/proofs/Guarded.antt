@@ -31,7 +31,8 @@ use Rattle.ec_law_net.proofs.Worked.{Worked, doer, head_apart, head_here, head_p
 use Rattle.ec_brick.specs.declared.row.Need.{Need}
 use Rattle.ec_brick.specs.declared.row.Check.{Check}
 use Rattle.ec_store.specs.Records.{replaced}
-use Rattle.ec_law_net.proofs.Requests.{on_pre, on_post, on_clear, on_mark, on_unmark, Works, absent, fresh}
+use Rattle.ec_law_net.proofs.Locks.{held}
+use Rattle.ec_law_net.proofs.Requests.{fence_meets, on_pre, on_post, on_clear, on_mark, on_unmark, Works, absent, fresh}
 use Rattle.ec_attr.specs.Head.{with_dirty}
 
 abbrev of_child : Gfid → ℕ → Gfid → Check → Row
@@ -44,27 +45,32 @@ member_apart : (set : ℕ → Bool) (x g : ℕ) → (x == g) ≡ false → cond 
 member_apart set x g e = rw e refl
 
 module _ (n k g : ℕ) (m : Net) (v : View) (b a : ℕ) (s : Brick) (is : IsHead (head_at s.records g) v.core b) (gone : v.core.removed b ≡ s.removed g) (holder : v.core.holder b ≡ option_map v.of (exclusive g Inode s.asks)) (healer : v.core.healer b ≡ option_map (λ i. call_of (m.said i)) (exclusive g Heal s.asks)) (own : OwnGrants v.core) where
-  on_make : (x : Gfid) (i : ℕ) (child : Child) (f : Failing) → (child.gfid.0 ≡ g → IsMake v b) → Works n k g m v b a s is gone holder healer own (Make x i child) f
+  on_make : (x : Gfid) (i : ℕ) (child : Child) (f : Failing) → (child.gfid.0 ≡ g → exclusive x.0 Inode s.asks ≡ Some i → v.core.present b ≡ false → v.core.removed b ≡ false → IsMake v b) → Works n k g m v b a s is gone holder healer own (Make x i child) f
   on_make x i child f ready = doer n k g b v s is gone (Make x i child) (of_child x i child.gfid Absent) child.gfid.0 (Makes b) (by_row s f (work s (Make x i child)) (Some (of_child x i child.gfid Absent))) refl (λ e. (head_apart s.records child.gfid.0 g _ e, refl)) done (outcome s (Make x i child) (of_child x i child.gfid Absent) f)
     where
       done : child.gfid.0 ≡ g → IsDone s (Make x i child) (of_child x i child.gfid Absent) (by_row s f (work s (Make x i child)) (Some (of_child x i child.gfid Absent))) → Worked n k g b (Makes b ∷ []) v.core s (work s (Make x i child)).done
       done e d =
           let h = absent i true (s.removed child.gfid.0) (head_at s.records child.gfid.0) d.allowed in
           let none = subst (λ (y : ℕ). head_at s.records y ≡ None) e h.0 in
-          worked_by n k g b (Makes b) v.core s (work s (Make x i child)).done (Some (new_head s.config child.kind)) (v.core.removed b) (make n k m v a b s.config child.kind (subst (λ (z : Option Head). IsHead z v.core b) none is) (gone ∙ subst (λ (y : ℕ). s.removed y ≡ false) e h.1) (ready e)) (head_put s.records child.gfid.0 g (headed (s.records child.gfid.0) (new_head s.config child.kind)) e ∙ ap (λ (z : Head). Some z) (headed_is (s.records child.gfid.0))) gone refl refl
+          let missing = subst (λ (z : Option Head). IsHead z v.core b) none is in
+          let kept = gone ∙ subst (λ (y : ℕ). s.removed y ≡ false) e h.1 in
+          let grant = held x Inode s.asks i (fence_meets s.asks (of_child x i child.gfid Absent) d.passed).0 in
+          worked_by n k g b (Makes b) v.core s (work s (Make x i child)).done (Some (new_head s.config child.kind)) (v.core.removed b) (make n k m v a b s.config child.kind missing kept (ready e grant missing kept)) (head_put s.records child.gfid.0 g (headed (s.records child.gfid.0) (new_head s.config child.kind)) e ∙ ap (λ (z : Head). Some z) (headed_is (s.records child.gfid.0))) gone refl refl
         where
           headed_is : (o : Option Record) → (headed o (new_head s.config child.kind)).head ≡ new_head s.config child.kind
           headed_is None = refl
           headed_is (Some y) = refl
 
-  on_made : (x : Gfid) (i : ℕ) (child : Gfid) (f : Failing) → (child.0 ≡ g → IsMade v b) → Works n k g m v b a s is gone holder healer own (Made x i child) f
+  on_made : (x : Gfid) (i : ℕ) (child : Gfid) (f : Failing) → (child.0 ≡ g → exclusive x.0 Inode s.asks ≡ Some i → v.core.removed b ≡ false → IsMade v b) → Works n k g m v b a s is gone holder healer own (Made x i child) f
   on_made x i child f ready = doer n k g b v s is gone (Made x i child) (of_child x i child Fresh) child.0 (Mades b) (by_row s f (work s (Made x i child)) (Some (of_child x i child Fresh))) refl (λ e. (head_apart s.records child.0 g _ e, refl)) done (outcome s (Made x i child) (of_child x i child Fresh) f)
     where
       done : child.0 ≡ g → IsDone s (Made x i child) (of_child x i child Fresh) (by_row s f (work s (Made x i child)) (Some (of_child x i child Fresh))) → Worked n k g b (Mades b ∷ []) v.core s (work s (Made x i child)).done
       done e d =
           let h = fresh i true (s.removed child.0) (head_at s.records child.0) d.allowed in
           let now = subst (λ (y : ℕ). head_at s.records y ≡ Some h.0) e h.1 in
-          worked_by n k g b (Mades b) v.core s (work s (Made x i child)).done (Some (with_dirty 0 h.0)) (v.core.removed b) (made n k m v a b h.0 (subst (λ (z : Option Head). IsHead z v.core b) now is) h.2 h.3 (gone ∙ subst (λ (y : ℕ). s.removed y ≡ false) e h.4) (ready e)) (head_here s.records child.0 g (with_dirty 0) e ∙ ap (option_map (with_dirty 0)) now) gone refl refl
+          let kept = gone ∙ subst (λ (y : ℕ). s.removed y ≡ false) e h.4 in
+          let grant = held x Inode s.asks i (fence_meets s.asks (of_child x i child Fresh) d.passed).0 in
+          worked_by n k g b (Mades b) v.core s (work s (Made x i child)).done (Some (with_dirty 0 h.0)) (v.core.removed b) (made n k m v a b h.0 (subst (λ (z : Option Head). IsHead z v.core b) now is) h.2 h.3 kept (ready e grant kept)) (head_here s.records child.0 g (with_dirty 0) e ∙ ap (option_map (with_dirty 0)) now) gone refl refl
 
   on_unmake : (x : Gfid) (i : ℕ) (child : Gfid) (f : Failing) → Works n k g m v b a s is gone holder healer own (Unmake x i child) f
   on_unmake x i child f = doer n k g b v s is gone (Unmake x i child) (of_child x i child Present) child.0 (Unmakes b) (by_row s f (work s (Unmake x i child)) (Some (of_child x i child Present))) refl (λ e. (head_apart s.records child.0 g None e, member_apart s.removed child.0 g e)) done (outcome s (Unmake x i child) (of_child x i child Present) f)

@@ -139,8 +139,8 @@ Ready n k g m v a b (PostOp x grant at version size attr) = x.0 ≡ g → IsPost
 Ready n k g m v a b (Clear x grant at) = x.0 ≡ g → IsClear n v a b grant at
 Ready n k g m v a b (Mark x grant heal head) = x.0 ≡ g → IsMark m v a b grant heal head
 Ready n k g m v a b (Unmark x grant at dirty) = x.0 ≡ g → IsUnmark m v a b grant at dirty
-Ready n k g m v a b (Make x grant child) = child.gfid.0 ≡ g → IsMake v b
-Ready n k g m v a b (Made x grant child) = child.0 ≡ g → IsMade v b
+Ready n k g m v a b (Make x grant child) = child.gfid.0 ≡ g → exclusive x.0 Inode (m.brick b).asks ≡ Some grant → v.core.present b ≡ false → v.core.removed b ≡ false → IsMake v b
+Ready n k g m v a b (Made x grant child) = child.0 ≡ g → exclusive x.0 Inode (m.brick b).asks ≡ Some grant → v.core.removed b ≡ false → IsMade v b
 Ready n k g m v a b q = Unit {0}
 
 -- A turn is granted once at a brick, and a heal's lock comes before all locks of its windows.

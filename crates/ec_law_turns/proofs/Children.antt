@@ -1,5 +1,5 @@
--- The gfid that the next child takes, entry by entry, and a gfid that none takes.
-use Rattle.std.proofs.Common.{◌≡◌, ◌⊎◌, ℕ, ◌+◌, ◌<◌, ◌≤◌, Bool, true, false, cond, ◌==◌, nat_le, Option, Some, None, List, ◌∷◌, length, refl, ap, arith, inl, inr, ⊎_elim}
+-- The gfid that the next child takes, entry by entry.
+use Rattle.std.proofs.Common.{◌≡◌, ℕ, ◌+◌, Bool, true, false, cond, nat_le, Option, Some, None, length, refl}
 use Rattle.ec_attr.specs.declared.geometry.Geometry.{Geometry}
 use Rattle.ec_attr.specs.declared.kind.Domain.TheVariants.{Inode}
 use Rattle.ec_attr.specs.declared.kind.LockKind.TheVariants.{Exclusive}
@@ -10,18 +10,10 @@ use Rattle.ec_wire.specs.declared.entry.Entry.TheVariants.{Called, Sent, Execute
 use Rattle.ec_wire.specs.declared.message.Body.{Body}
 use Rattle.ec_wire.specs.declared.message.Body.TheVariants.{ToBrick, ToClient}
 use Rattle.ec_wire.specs.declared.message.Message.{Message}
-use Rattle.ec_wire.specs.declared.op.Op.{Op}
-use Rattle.ec_wire.specs.declared.op.Op.TheVariants.{Create, Mkdir}
 use Rattle.ec_wire.specs.declared.request.Request.{Request}
 use Rattle.ec_wire.specs.declared.request.Request.TheVariants.{WriteChunks, SetLength, PostOp, NameSet, Make}
 use Rattle.ec_history.specs.Run.{Net}
 use Rattle.ec_history.specs.Story.{Story, done_by, executes, failed_by, is_among, is_commit, is_unmarked, makes_a_child, opens, request_of, said_by, tears, told, told_executed, told_torn, torn_by, with_post}
-use Rattle.ec_conduct.specs.Done.{or_else}
-use Rattle.ec_law_net.specs.Turns.{Maker, View, made_by, seen_after}
-use Rattle.ec_law_turns.proofs.Basics.{equal}
-use Rattle.ec_law_turns.specs.Orderly.{IsNoChild, children}
-
--- ## The next gfid
 
 abbrev pub next_after : ℕ → Entry → ℕ
 next_after next (Called a client op) = cond (makes_a_child op) (next + 1) next
@@ -87,26 +79,3 @@ told_next geometry m t (Sent msg) = said_next t msg.call msg.body
 told_next geometry m t (Executed i version failed) = executed_next geometry m t (m.said i) version failed
 told_next geometry m t (Torn i bytes version) = torn_next m t (m.said i) version
 told_next geometry m t e = refl
-
--- ## Logs
-
--- nobody makes g with an entry of a log in which none does
-pub none_first : (g : ℕ) (m : Net) (v : View) (e : Entry) (es : List Entry) → IsNoChild g v.next_gfid (e ∷ es) → v.maker ≡ None → ((seen_after g m v e).maker ≡ None) × IsNoChild g (seen_after g m v e).next_gfid es
-none_first g m v (Called a client op) es h none = called op h
-  where
-    other : (u : Bool) → (v.next_gfid == g) ≡ u → (g < v.next_gfid) ⊎ (v.next_gfid + (1 + children es) ≤ g) → u ≡ false
-    other false e h = refl
-    other true e h = absurd (let same = equal v.next_gfid g e in ⊎_elim (λ lt. omega (arith, lt, same)) (λ le. omega (arith, le, same)) h)
-
-    still : (u : Bool) (x : Maker) → u ≡ false → or_else v.maker (cond u (Some x) None) ≡ None
-    still false x e = ap (λ (o : Option Maker). or_else o None) none
-    still true x e = absurd (cc)
-
-    rest : (g < v.next_gfid) ⊎ (v.next_gfid + (1 + children es) ≤ g) → IsNoChild g (v.next_gfid + 1) es
-    rest h = ⊎_elim (λ lt. inl (omega (arith, lt))) (λ le. inr (omega (arith, le))) h
-
-    called : (op : Op) → IsNoChild g v.next_gfid (Called a client op ∷ es) → ((made_by g v a op).maker ≡ None) × IsNoChild g (made_by g v a op).next_gfid es
-    called (Create parent name) h = (still (v.next_gfid == g) (record { call = a; dir = parent.0 }) (other (v.next_gfid == g) refl h), rest h)
-    called (Mkdir parent name) h = (still (v.next_gfid == g) (record { call = a; dir = parent.0 }) (other (v.next_gfid == g) refl h), rest h)
-    called op h = (none, h)
-none_first g m v e es h none = (none, h)

@@ -163,3 +163,102 @@ step_early n k s (Replace y) may a b h = h
 pub after_early : (n k : ℕ) (xs : List Act) (s : State) → Runs n k xs s → (a b : ℕ) → is_early s a b ≡ true → is_early (after xs s) a b ≡ true
 after_early n k [] s runs a b h = h
 after_early n k (e ∷ xs) s runs a b h = after_early n k xs (step s e) runs.1 a b (step_early n k s e runs.0 a b h)
+
+-- ## A grant that is early was there at the moment
+
+pub step_moment : (s : State) (e : Act) (a : ℕ) → s.moment a ≡ true → (step s e).moment a ≡ true
+step_moment s (Moment x) a h = at (a == x)
+  where
+    at : (t : Bool) → cond t true (s.moment a) ≡ true
+    at true = refl
+    at false = h
+step_moment s (Grant x y) a h = h
+step_moment s (Free y) a h = h
+step_moment s (Share x y) a h = h
+step_moment s (Unshare x y) a h = h
+step_moment s (See x y) a h = h
+step_moment s (Keep x y) a h = h
+step_moment s (Carry x y z) a h = h
+step_moment s (Choose x p) a h = h
+step_moment s (Choose_kept x y p) a h = h
+step_moment s (Pre x y) a h = h
+step_moment s (Sink_pre x y) a h = h
+step_moment s (Post x y) a h = h
+step_moment s (Sink_post x y) a h = h
+step_moment s (Clear x y) a h = h
+step_moment s (Heal_grant x y) a h = h
+step_moment s (Heal_free y) a h = h
+step_moment s (Mark x y) a h = h
+step_moment s (Unmark x y) a h = h
+step_moment s (Maker_grant y) a h = h
+step_moment s (Maker_free y) a h = h
+step_moment s (Make y) a h = h
+step_moment s (Made y) a h = h
+step_moment s (Unmake y) a h = h
+step_moment s (Stop y) a h = h
+step_moment s (Replace y) a h = h
+
+pub after_moment : (xs : List Act) (s : State) (a : ℕ) → s.moment a ≡ true → (after xs s).moment a ≡ true
+after_moment [] s a h = h
+after_moment (e ∷ xs) s a h = after_moment xs (step s e) a (step_moment s e a h)
+
+-- turn a has brick b since before its moment
+abbrev pub HasSince : State → ℕ → ℕ → Type 0
+HasSince s a b = (is_early s a b ≡ true) × (s.holder b ≡ Some a)
+
+-- a grant that is given after the moment is none of those
+given_late : (s : State) (x y a b : ℕ) → s.moment a ≡ true → (t u : Bool) → (a == x) ≡ t → (b == y) ≡ u → (cond (t && u) (not (s.moment x)) (s.early a b) && cond (t && u) true (s.granted a b)) ≡ true → cond u (Some x) (s.holder b) ≡ Some a → HasSince s a b
+given_late s x y a b come true true e f h is = absurd (let z = subst (λ (k : ℕ). (not (s.moment k) && true) ≡ true) (sym (equal a x e)) h in none (s.moment a) come z)
+  where
+    none : (t : Bool) → t ≡ true → (not t && true) ≡ true → ⊥
+    none true i j = absurd (cc)
+    none false i j = absurd (cc)
+given_late s x y a b come false true e f h is = absurd (let z = some_is x a is in let w = sym (ap (λ (k : ℕ). a == k) z) ∙ e in let q = sym (itself a) ∙ w in cc)
+given_late s x y a b come true false e f h is = (h, is)
+given_late s x y a b come false false e f h is = (h, is)
+
+shared_late : (s : State) (x y a b : ℕ) → s.moment a ≡ true → (t u : Bool) → (a == x) ≡ t → (b == y) ≡ u → (cond (t && u) (not (s.moment x)) (s.early a b) && cond (t && u) true (s.granted a b)) ≡ true → is_early s a b ≡ true
+shared_late s x y a b come true true e f h = absurd (let z = subst (λ (k : ℕ). (not (s.moment k) && true) ≡ true) (sym (equal a x e)) h in none (s.moment a) come z)
+  where
+    none : (t : Bool) → t ≡ true → (not t && true) ≡ true → ⊥
+    none true i j = absurd (cc)
+    none false i j = absurd (cc)
+shared_late s x y a b come true false e f h = h
+shared_late s x y a b come false u e f h = h
+
+carried_late : (s : State) (x y a b : ℕ) → s.moment a ≡ true → s.moment x ≡ false → (t u : Bool) → (a == x) ≡ t → (b == y) ≡ u → (cond (t && u) true (s.early a b) && cond (t && u) true (s.granted a b)) ≡ true → cond u (Some x) (s.holder b) ≡ Some a → HasSince s a b
+carried_late s x y a b come none true u e f h is = absurd (let z = sym come ∙ (ap s.moment (equal a x e) ∙ none) in cc)
+carried_late s x y a b come none false true e f h is = absurd (let z = some_is x a is in let w = sym (ap (λ (k : ℕ). a == k) z) ∙ e in let q = sym (itself a) ∙ w in cc)
+carried_late s x y a b come none false false e f h is = (h, is)
+
+step_back : (n k : ℕ) (s : State) (e : Act) → May n k s e → (a b : ℕ) → s.moment a ≡ true → HasSince (step s e) a b → HasSince s a b
+step_back n k s (Grant x y) may a b come h = given_late s x y a b come (a == x) (b == y) refl refl h.0 h.1
+step_back n k s (Free y) may a b come h = (h.0, was (b == y) (s.holder b) a h.1)
+step_back n k s (Share x y) may a b come h = (shared_late s x y a b come (a == x) (b == y) refl refl h.0, h.1)
+step_back n k s (Carry x y z) may a b come h = carried_late s y z a b come may.4 (a == y) (b == z) refl refl h.0 h.1
+step_back n k s (Stop y) may a b come h = (h.0, was (b == y) (s.holder b) a h.1)
+step_back n k s (Unshare x y) may a b come h = h
+step_back n k s (Moment x) may a b come h = h
+step_back n k s (See x y) may a b come h = h
+step_back n k s (Keep x y) may a b come h = h
+step_back n k s (Choose x p) may a b come h = h
+step_back n k s (Choose_kept x y p) may a b come h = h
+step_back n k s (Pre x y) may a b come h = h
+step_back n k s (Sink_pre x y) may a b come h = h
+step_back n k s (Post x y) may a b come h = h
+step_back n k s (Sink_post x y) may a b come h = h
+step_back n k s (Clear x y) may a b come h = h
+step_back n k s (Heal_grant x y) may a b come h = h
+step_back n k s (Heal_free y) may a b come h = h
+step_back n k s (Mark x y) may a b come h = h
+step_back n k s (Unmark x y) may a b come h = h
+step_back n k s (Maker_grant y) may a b come h = h
+step_back n k s (Maker_free y) may a b come h = h
+step_back n k s (Make y) may a b come h = h
+step_back n k s (Made y) may a b come h = h
+step_back n k s (Unmake y) may a b come h = h
+step_back n k s (Replace y) may a b come h = h
+
+pub after_back : (n k : ℕ) (xs : List Act) (s : State) → Runs n k xs s → (a b : ℕ) → s.moment a ≡ true → HasSince (after xs s) a b → HasSince s a b
+after_back n k [] s runs a b come h = h
+after_back n k (e ∷ xs) s runs a b come h = step_back n k s e runs.0 a b come (after_back n k xs (step s e) runs.1 a b (step_moment s e a come) h)

@@ -6,7 +6,7 @@ use Rattle.ec_wire.specs.declared.message.Message.{Message}
 use Rattle.ec_wire.specs.declared.reply.Reply.{Reply}
 use Rattle.ec_wire.specs.declared.reply.Reply.TheVariants.{Head as HeadIs}
 use Rattle.ec_wire.specs.declared.request.Request.{Request}
-use Rattle.ec_wire.specs.declared.request.Request.TheVariants.{Query, PreOp, PostOp, Clear}
+use Rattle.ec_wire.specs.declared.request.Request.TheVariants.{Query, PreOp, PostOp, Clear, Make}
 use Rattle.ec_conduct.specs.Account.{Exchange}
 use Rattle.ec_history.specs.Run.{Owed}
 use Rattle.ec_law_base.specs.State.{Ballot, Head as Seen, State, target}
@@ -24,6 +24,7 @@ module _ (g : ℕ) (said said' : ℕ → Option Message) (of of' : ℕ → ℕ) 
   tells_later (Query x n) (HeadIs y) t b h = λ on. let o = h on in record { message = o.message; is = (still n o.message o.is).0; at = λ z body same. ⊎_elim (λ e. inl (later.seen t b _ e)) (λ lt. inr (more t lt)) (o.at z body same) }
   tells_later (PreOp x n at dirty) reply t b h = λ on so plain. later.pre t b (h on so plain)
   tells_later (PostOp x n at version size attr) reply t b h = λ on so plain. later.post t b (h on so plain)
+  tells_later (Make x n child) reply t b h = λ on so. later.born b (h on so)
   tells_later q reply t b h = tt
 
   pub is_told_later : (i : ℕ) (reply : Reply) → IsTold g said of s i reply → IsTold g said' of' s' i reply

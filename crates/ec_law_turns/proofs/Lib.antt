@@ -1,13 +1,17 @@
 pub mod Allowed
 pub mod Balloting
 pub mod Basics
+pub mod BirthRuns
+pub mod Births
 pub mod Children
 pub mod Did
 pub mod Directories
 pub mod Early
+pub mod Filed
 pub mod Granting
 pub mod Grants
 pub mod Groups
+pub mod Having
 pub mod Hearing
 pub mod Lasting
 pub mod Later
@@ -15,6 +19,7 @@ pub mod Learning
 pub mod Letting
 pub mod MakerRuns
 pub mod Makes
+pub mod MakesReady
 pub mod Numbered
 pub mod Onces
 pub mod OrderlyRuns

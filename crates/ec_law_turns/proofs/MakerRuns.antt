@@ -84,7 +84,7 @@ module _ (geometry : Geometry) (g : ℕ) (m : Net) (vs : ℕ → View) (t : Stor
 
 -- ## Every log
 
-made_entry : (geometry : Geometry) (g : ℕ) (m : Net) (vs : ℕ → View) (t : Story) (b : Books) (e : Entry) → MayEnter geometry.n m e → EntryKept m b e → ((h : ℕ) → Known geometry h m (vs h) b) → Taken g (vs g) t b → MadeByMaker g m (vs g) → MadeByMaker g (after m e) (seen_after g m (vs g) e)
+pub made_entry : (geometry : Geometry) (g : ℕ) (m : Net) (vs : ℕ → View) (t : Story) (b : Books) (e : Entry) → MayEnter geometry.n m e → EntryKept m b e → ((h : ℕ) → Known geometry h m (vs h) b) → Taken g (vs g) t b → MadeByMaker g m (vs g) → MadeByMaker g (after m e) (seen_after g m (vs g) e)
 made_entry geometry g m vs t b (Called a client op) may kept known k h = grown g m (after m (Called a client op)) (vs g) (seen_after g m (vs g) (Called a client op)) refl (made_known g (vs g) a op) h
 made_entry geometry g m vs t b (Sent msg) may kept known k h = λ i x q e body. ⊎_elim (λ z. new x q body (some_is msg x z.1)) (λ z. later x.call x.brick q (h i x q z.1 body)) (put_some m.said msg.no (Some msg) i x e)
   where

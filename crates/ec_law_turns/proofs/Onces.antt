@@ -1,4 +1,5 @@
--- A Query, a PreOp and a PostOp go to a brick once in a turn, and the machine did only what a message asked for.
+-- A Query, a PreOp, a PostOp, a Make and a Made go to a brick once in a turn, and the machine did only what a message asked
+-- for.
 use Rattle.std.proofs.Common.{◌≡◌, ◌≢◌, ◌⊎◌, ℕ, ◌-◌, ◌^◌, ◌≤◌, Bool, true, false, not, cond, ◌==◌, ◌&&◌, Option, Some, None, refl, sym, ◌∙◌, ap, subst, arith, ⊎_elim}
 use Rattle.std.specs.Prelude.{is_some, unwrap_or}
 use Rattle.ec_attr.specs.Marks.{is_marked}
@@ -10,11 +11,11 @@ use Rattle.ec_wire.specs.declared.message.Body.{Body}
 use Rattle.ec_wire.specs.declared.message.Body.TheVariants.{ToBrick, ToClient}
 use Rattle.ec_wire.specs.declared.message.Message.{Message}
 use Rattle.ec_wire.specs.declared.request.Request.{Request}
-use Rattle.ec_wire.specs.declared.request.Request.TheVariants.{Ask, Release, Query, PreOp, PostOp}
+use Rattle.ec_wire.specs.declared.request.Request.TheVariants.{Ask, Release, Query, PreOp, PostOp, Make, Made}
 use Rattle.ec_brick.specs.Step.{cut_off}
 use Rattle.ec_conduct.specs.Account.{Account, Lock, gfid_of}
 use Rattle.ec_conduct.specs.Conduct.{MaySend, is_release}
-use Rattle.ec_conduct.specs.Done.{is_post, is_pre, is_query, tried}
+use Rattle.ec_conduct.specs.Done.{is_made, is_make, is_post, is_pre, is_query, tried}
 use Rattle.ec_conduct.specs.Opened.{account}
 use Rattle.ec_history.specs.Accounts.{Books}
 use Rattle.ec_history.specs.IsRun.{May as MayEnter, MaySay}
@@ -25,7 +26,7 @@ use Rattle.ec_law_net.specs.Turns.{View, acts_executed, acts_of_request, acts_se
 use Rattle.ec_law_net.proofs.Guarded.{IsGuarded}
 use Rattle.ec_law_turns.specs.Follows.{Follows, IsSaid}
 use Rattle.ec_law_turns.specs.Known.{Known}
-use Rattle.ec_law_turns.specs.Once.{IsIn, Landed, Once, OnceOf, is_plain_pre, is_sink_pre}
+use Rattle.ec_law_turns.specs.Once.{IsIn, Landed, LandedAt, Once, OnceOf, is_made_of, is_make_of, is_plain_pre, is_sink_pre}
 use Rattle.ec_law_turns.specs.Orderly.{InOrder}
 use Rattle.ec_law_turns.proofs.Allowed.{free, locked}
 use Rattle.ec_law_turns.proofs.Basics.{differ, equal, has_tried, put_here, put_there, some_is, some_none, wait_of}
@@ -83,6 +84,22 @@ post_once : (g : ℕ) (q : Request) → is_post q ≡ true → gfid_of q ≡ Som
 post_once g (PostOp x n at version size attr) h on said turn of moment a b c f may order = subst (λ (z : ℕ). tried is_post ((c.on z).place b).window ≡ false) (some_is x.0 g on) order
 post_once g q h on said turn of moment a b c f may order = absurd (cc)
 
+make_guarded : (q : Request) → is_make q ≡ true → IsGuarded q
+make_guarded (Make x n child) h = tt
+make_guarded q h = absurd (cc)
+
+made_guarded : (q : Request) → is_made q ≡ true → IsGuarded q
+made_guarded (Made x n child) h = tt
+made_guarded q h = absurd (cc)
+
+make_once : (g : ℕ) (q : Request) → is_make q ≡ true → gfid_of q ≡ Some g → (said : ℕ → Option Message) (turn : ℕ → Option ℕ) (of : ℕ → ℕ) (moment : ℕ → Bool) (a b : ℕ) (c : Account) → Follows g said turn of moment a c → MaySend c b q → InOrder c b q → tried is_make ((c.on g).place b).window ≡ false
+make_once g (Make x n child) h on said turn of moment a b c f may order = subst (λ (z : ℕ). tried is_make ((c.on z).place b).window ≡ false) (some_is x.0 g on) order
+make_once g q h on said turn of moment a b c f may order = absurd (cc)
+
+made_once : (g : ℕ) (q : Request) → is_made q ≡ true → gfid_of q ≡ Some g → (said : ℕ → Option Message) (turn : ℕ → Option ℕ) (of : ℕ → ℕ) (moment : ℕ → Bool) (a b : ℕ) (c : Account) → Follows g said turn of moment a c → MaySend c b q → InOrder c b q → tried is_made ((c.on g).place b).window ≡ false
+made_once g (Made x n child) h on said turn of moment a b c f may order = subst (λ (z : ℕ). tried is_made ((c.on z).place b).window ≡ false) (some_is x.0 g on) may.1.once
+made_once g q h on said turn of moment a b c f may order = absurd (cc)
+
 queries_once : (g : ℕ) → SentOnce g is_query
 queries_once g = record { guarded = query_guarded; once = query_once g }
 
@@ -91,6 +108,12 @@ preops_once g = record { guarded = pre_guarded; once = pre_once g }
 
 posts_once : (g : ℕ) → SentOnce g is_post
 posts_once g = record { guarded = post_guarded; once = post_once g }
+
+makes_once : (g : ℕ) → SentOnce g is_make
+makes_once g = record { guarded = make_guarded; once = make_once g }
+
+mades_once : (g : ℕ) → SentOnce g is_made
+mades_once g = record { guarded = made_guarded; once = made_once g }
 
 -- ## A message is sent
 
@@ -154,6 +177,9 @@ landed_later g said said' flying flying' of of' test b t still lands h =
     let o = h.asked in
     record { number = h.number; asked = record { message = o.message; request = o.request; is = (still h.number o.message o.is).0; brick = o.brick; body = o.body; on = o.on; passes = o.passes; turn = (still h.number o.message o.is).1 ∙ o.turn }; landed = lands h.number o.message o.is h.landed }
 
+landed_at_later : (said said' : ℕ → Option Message) (flying flying' : ℕ → Bool) (test : Request → Bool) (b : ℕ) → ((i : ℕ) (x : Message) → said i ≡ Some x → said' i ≡ Some x) → ((i : ℕ) (x : Message) → said i ≡ Some x → flying i ≡ false → flying' i ≡ false) → LandedAt said flying test b → LandedAt said' flying' test b
+landed_at_later said said' flying flying' test b still lands h = record { number = h.number; message = h.message; request = h.request; is = still h.number h.message h.is; brick = h.brick; body = h.body; passes = h.passes; landed = lands h.number h.message h.is h.landed }
+
 module _ (g : ℕ) (said : ℕ → Option Message) (flying : ℕ → Bool) (of : ℕ → ℕ) (core : State) (o : Once g said flying of core) where
   -- nothing is said, messages may land, and nothing more was executed
   stays : (said' : ℕ → Option Message) (flying' : ℕ → Bool) (of' : ℕ → ℕ) (core' : State) → said' ≡ said → of' ≡ of → ((i : ℕ) → flying i ≡ false → flying' i ≡ false) → Same core core' → Once g said' flying' of' core'
@@ -161,9 +187,13 @@ module _ (g : ℕ) (said : ℕ → Option Message) (flying : ℕ → Bool) (of :
     queries = o.queries;
     preops = o.preops;
     posts = o.posts;
+    makes = o.makes;
+    mades = o.mades;
     seen = λ t b le e. landed_later g said said flying flying' of of is_query b t (λ i x h. (h, refl)) (λ i x h f. lands i f) (o.seen t b le (sym (ap (λ (f : ℕ → ℕ → Option Head). is_some (f t b)) same.seen) ∙ e));
     pre = λ t b le e. landed_later g said said flying flying' of of is_plain_pre b t (λ i x h. (h, refl)) (λ i x h f. lands i f) (o.pre t b le (sym (ap (λ (f : ℕ → ℕ → Bool). f t b) same.pre) ∙ e));
     post = λ t b le e. landed_later g said said flying flying' of of is_post b t (λ i x h. (h, refl)) (λ i x h f. lands i f) (o.post t b le (sym (ap (λ (f : ℕ → ℕ → Bool). f t b) same.post) ∙ e));
+    born = λ b e. landed_at_later said said flying flying' (is_make_of g) b (λ i x h. h) (λ i x h f. lands i f) (o.born b (sym (ap (λ (f : ℕ → Bool). f b) same.born) ∙ e));
+    grown = λ b e. landed_at_later said said flying flying' (is_made_of g) b (λ i x h. h) (λ i x h f. lands i f) (o.grown b (sym (ap (λ (f : ℕ → Bool). f b) same.grown) ∙ e));
   }))
 
 lands_put : (f : ℕ → Bool) (j i : ℕ) → f i ≡ false → put f j false i ≡ false
@@ -190,7 +220,7 @@ torn_lands m (Some msg) bytes version i e = by_body msg.body
     by_body (ToClient re reply) = e
 
 nothing_more : (s : State) → Same s s
-nothing_more s = record { seen = refl; pre = refl; post = refl }
+nothing_more s = record { seen = refl; pre = refl; post = refl; born = refl; grown = refl; making = refl }
 
 module _ (geometry : Geometry) (g : ℕ) (m : Net) (v : View) (b : Books) (k : Known geometry g m v b) (o : Once g m.said m.flying v.of v.core) where
   sent_once : (msg : Message) → msg.no ≡ m.next → MaySay geometry.n m msg msg.body → BodyKept m b msg msg.body → Once g (said_after m msg) (put m.flying msg.no true) (of_after g v msg) (after (acts_sent g v.core (turn_of g v msg) msg.body) v.core)
@@ -201,9 +231,13 @@ module _ (geometry : Geometry) (g : ℕ) (m : Net) (v : View) (b : Books) (k : K
         queries = once_later geometry g m v b msg next_no may k kept is_query (queries_once g) o.queries;
         preops = once_later geometry g m v b msg next_no may k kept is_pre (preops_once g) o.preops;
         posts = once_later geometry g m v b msg next_no may k kept is_post (posts_once g) o.posts;
+        makes = once_later geometry g m v b msg next_no may k kept is_make (makes_once g) o.makes;
+        mades = once_later geometry g m v b msg next_no may k kept is_made (mades_once g) o.mades;
         seen = λ t c le e. landed_later g m.said (said_after m msg) m.flying (put m.flying msg.no true) v.of (of_after g v msg) is_query c t more.still (λ i x h f. put_there m.flying msg.no true i (more.before i x h) ∙ f) (o.seen t c le (sym (ap (λ (f : ℕ → ℕ → Option Head). is_some (f t c)) same.seen) ∙ e));
         pre = λ t c le e. landed_later g m.said (said_after m msg) m.flying (put m.flying msg.no true) v.of (of_after g v msg) is_plain_pre c t more.still (λ i x h f. put_there m.flying msg.no true i (more.before i x h) ∙ f) (o.pre t c le (sym (ap (λ (f : ℕ → ℕ → Bool). f t c) same.pre) ∙ e));
         post = λ t c le e. landed_later g m.said (said_after m msg) m.flying (put m.flying msg.no true) v.of (of_after g v msg) is_post c t more.still (λ i x h f. put_there m.flying msg.no true i (more.before i x h) ∙ f) (o.post t c le (sym (ap (λ (f : ℕ → ℕ → Bool). f t c) same.post) ∙ e));
+        born = λ c e. landed_at_later m.said (said_after m msg) m.flying (put m.flying msg.no true) (is_make_of g) c (λ i x h. (more.still i x h).0) (λ i x h f. put_there m.flying msg.no true i (more.before i x h) ∙ f) (o.born c (sym (ap (λ (f : ℕ → Bool). f c) same.born) ∙ e));
+        grown = λ c e. landed_at_later m.said (said_after m msg) m.flying (put m.flying msg.no true) (is_made_of g) c (λ i x h. (more.still i x h).0) (λ i x h f. put_there m.flying msg.no true i (more.before i x h) ∙ f) (o.grown c (sym (ap (λ (f : ℕ → Bool). f c) same.grown) ∙ e));
       }
 
   executed_once : (msg : Message) (q : Request) (version : Option ℕ) (failed : Bool) → m.said msg.no ≡ Some msg → msg.body ≡ ToBrick q → Once g m.said (put m.flying msg.no false) v.of (after (acts_of_request g m v msg (ToBrick q) version failed) v.core)
@@ -211,9 +245,13 @@ module _ (geometry : Geometry) (g : ℕ) (m : Net) (v : View) (b : Books) (k : K
     queries = o.queries;
     preops = o.preops;
     posts = o.posts;
+    makes = o.makes;
+    mades = o.mades;
     seen = λ t c le e. ⊎_elim (λ h. old is_query c t (o.seen t c le h)) (λ h. new is_query c t h.0 h.1 h.2 h.3) (grown.seen t c e);
     pre = λ t c le e. ⊎_elim (λ h. old is_plain_pre c t (o.pre t c le h)) (λ h. new is_plain_pre c t h.0 h.1 h.2 h.3) (grown.pre t c e);
     post = λ t c le e. ⊎_elim (λ h. old is_post c t (o.post t c le h)) (λ h. new is_post c t h.0 h.1 h.2 h.3) (grown.post t c e);
+    born = λ c e. ⊎_elim (λ h. old_at (is_make_of g) c (o.born c h)) (λ h. new_at (is_make_of g) c h.0 h.1) (grown.born c e);
+    grown = λ c e. ⊎_elim (λ h. old_at (is_made_of g) c (o.grown c h)) (λ h. new_at (is_made_of g) c h.0 h.1) (grown.grown c e);
   }
     where
       grown : Grows g (v.of msg.no) msg.brick q v.core (after (acts_of_request g m v msg (ToBrick q) version failed) v.core)
@@ -224,6 +262,12 @@ module _ (geometry : Geometry) (g : ℕ) (m : Net) (v : View) (b : Books) (k : K
 
       new : (test : Request → Bool) (c t : ℕ) → t ≡ v.of msg.no → c ≡ msg.brick → test q ≡ true → gfid_of q ≡ Some g → Landed g m.said (put m.flying msg.no false) v.of test c t
       new test c t turn brick passes on = record { number = msg.no; asked = record { message = msg; request = q; is = is; brick = sym brick; body = body; on = on; passes = passes; turn = sym turn }; landed = put_here m.flying msg.no false msg.no refl }
+
+      old_at : (test : Request → Bool) (c : ℕ) → LandedAt m.said m.flying test c → LandedAt m.said (put m.flying msg.no false) test c
+      old_at test c h = landed_at_later m.said m.said m.flying (put m.flying msg.no false) test c (λ i x h. h) (λ i x h f. lands_put m.flying msg.no i f) h
+
+      new_at : (test : Request → Bool) (c : ℕ) → c ≡ msg.brick → test q ≡ true → LandedAt m.said (put m.flying msg.no false) test c
+      new_at test c brick passes = record { number = msg.no; message = msg; request = q; is = is; brick = sym brick; body = body; passes = passes; landed = put_here m.flying msg.no false msg.no refl }
 
 pub did_entry : (geometry : Geometry) (g : ℕ) (m : Net) (v : View) (b : Books) (e : Entry) → MayEnter geometry.n m e → EntryKept m b e → Known geometry g m v b → Once g m.said m.flying v.of v.core → Once g (net_after m e).said (net_after m e).flying (seen_after g m v e).of (seen_after g m v e).core
 did_entry geometry g m v b (Called a client op) may kept k o = stays g m.said m.flying v.of v.core o m.said m.flying (seen_after g m v (Called a client op)).of v.core refl (made_same g v a op).1 (λ i f. f) (nothing_more v.core)
@@ -237,7 +281,7 @@ did_entry geometry g m v b (Executed i version failed) may kept k o =
 did_entry geometry g m v b (Heard i) may kept k o = stays g m.said m.flying v.of v.core o (heard m (m.said i)).said (heard m (m.said i)).flying v.of v.core (heard_same m (m.said i)).0 refl (heard_lands m (m.said i)) (nothing_more v.core)
 did_entry geometry g m v b (Lost i) may kept k o = stays g m.said m.flying v.of v.core o m.said (put m.flying i false) v.of v.core refl refl (lands_put m.flying i) (nothing_more v.core)
 did_entry geometry g m v b (GivenUp client brick i) may kept k o = o
-did_entry geometry g m v b (Stopped x) may kept k o = stays g m.said m.flying v.of v.core o m.said m.flying v.of (seen_after g m v (Stopped x)).core refl refl (λ i f. f) (record { seen = refl; pre = refl; post = refl })
+did_entry geometry g m v b (Stopped x) may kept k o = stays g m.said m.flying v.of v.core o m.said m.flying v.of (seen_after g m v (Stopped x)).core refl refl (λ i f. f) (record { seen = refl; pre = refl; post = refl; born = refl; grown = refl; making = refl })
 did_entry geometry g m v b (Returned x) may kept k o = o
 did_entry geometry g m v b (Cut client x) may kept k o = stays g m.said m.flying v.of v.core o m.said m.flying v.of (seen_after g m v (Cut client x)).core refl refl (λ i f. f) (locks_same g m v x (m.brick x).asks (cut_off (m.brick x) client).brick.asks v.core)
 did_entry geometry g m v b (Died client) may kept k o = o

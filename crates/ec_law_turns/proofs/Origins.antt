@@ -53,21 +53,25 @@ origin_stays : (es : List Act) (s : State) → (after_acts es s).origin ≡ s.or
 origin_stays [] s = refl
 origin_stays (e ∷ es) s = origin_stays es (step s e) ∙ step_origin s e
 
--- a gfid that no brick has had no version
-pub unversioned : (config : Config) (records : ℕ → Records) (bricks : ℕ → Brick) (tree : Tree) (next g : ℕ) → IsStart config records bricks tree next → next ≤ g → (tree g).version ≡ 0
-unversioned config records bricks tree next g start le = ap (λ (y : Flat). y.version) (start.elsewhere g (λ b lt. absent b lt (records b g) refl))
+-- from the next gfid on no brick has one
+pub unrecorded : (config : Config) (records : ℕ → Records) (bricks : ℕ → Brick) (tree : Tree) (next g : ℕ) → IsStart config records bricks tree next → next ≤ g → (b : ℕ) → b < config.geometry.n → records b g ≡ None
+unrecorded config records bricks tree next g start le b lt = absent b lt (records b g) refl
   where
     absent : (b : ℕ) → b < config.geometry.n → (o : Option Record) → records b g ≡ o → records b g ≡ None
     absent b lt None e = e
     absent b lt (Some r) e = absurd (let below = start.next_gfid.above b g lt (inl (λ z. some_none r (sym e ∙ z))) in omega (arith, below, le))
 
+-- and so it had no version
+pub unversioned : (config : Config) (records : ℕ → Records) (bricks : ℕ → Brick) (tree : Tree) (next g : ℕ) → IsStart config records bricks tree next → next ≤ g → (tree g).version ≡ 0
+unversioned config records bricks tree next g start le = ap (λ (y : Flat). y.version) (start.elsewhere g (unrecorded config records bricks tree next g start le))
+
 -- ## Entries
 
 -- From `next` on gfids are taken, and the flat version of the beginning is this one.
 pub record IsFresh (next origin g : ℕ) (v : View) : Type 0 where
-  same : v.core.origin ≡ origin
-  rises : next ≤ v.next_gfid
-  taken : (v.maker ≡ None) ⊎ (next ≤ g)
+  pub same : v.core.origin ≡ origin
+  pub rises : next ≤ v.next_gfid
+  pub taken : (v.maker ≡ None) ⊎ (next ≤ g)
 
 module _ (next origin g : ℕ) (v : View) (k : IsFresh next origin g v) where
   takes : (x : Maker) → (or_else v.maker (cond (v.next_gfid == g) (Some x) None) ≡ None) ⊎ (next ≤ g)
@@ -86,7 +90,7 @@ module _ (next origin g : ℕ) (v : View) (k : IsFresh next origin g v) where
   fresh_noted (Called a client op) = called a op
   fresh_noted e = record { same = k.same; rises = k.rises; taken = k.taken }
 
-fresh_entry : (next origin g : ℕ) (m : Net) (v : View) (e : Entry) → IsFresh next origin g v → IsFresh next origin g (seen_after g m v e)
+pub fresh_entry : (next origin g : ℕ) (m : Net) (v : View) (e : Entry) → IsFresh next origin g v → IsFresh next origin g (seen_after g m v e)
 fresh_entry next origin g m v e k =
     let o = fresh_noted next origin g v k e in
     record { same = origin_stays (acts g m v e) v.core ∙ k.same; rises = o.rises; taken = o.taken }

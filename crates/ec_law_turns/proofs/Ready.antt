@@ -1,5 +1,5 @@
 -- What a log needs of the calls, from the conduct and from what bricks told them.
-use Rattle.std.proofs.Common.{◌≡◌, ℕ, ◌^◌, ◌≤◌, Bool, true, false, cond, ◌==◌, Option, None, Some, List, [], refl, sym, ◌∙◌, ap, subst, arith, ◌&&◌, ◌<◌, ◌∷◌, inl}
+use Rattle.std.proofs.Common.{◌≡◌, ℕ, ◌^◌, ◌≤◌, Bool, true, false, cond, ◌==◌, Option, Some, List, [], refl, sym, ◌∙◌, ap, subst, arith, ◌&&◌, ◌<◌, ◌∷◌, inl}
 use Rattle.ec_attr.specs.declared.geometry.Geometry.{Geometry}
 use Rattle.ec_attr.specs.declared.kind.Domain.{Domain}
 use Rattle.ec_attr.specs.declared.kind.Domain.TheVariants.{Inode, Heal}
@@ -50,9 +50,9 @@ use Rattle.ec_law_turns.proofs.Sending.{number_is, raises_it, stands_on}
 use Rattle.ec_law_turns.proofs.SentKnown.{BodyKept}
 use Rattle.ec_law_turns.proofs.Steps.{EntryKept}
 use Rattle.ec_law_turns.specs.Sound.{AreSound, IsSound}
-use Rattle.ec_law_turns.specs.Makers.{MadeByMaker, MakesByMaker}
+use Rattle.ec_law_turns.proofs.MakesReady.{MakeReady, MakesReady}
 use Rattle.ec_law_turns.specs.Told.{PostTold, PreTold, Saw, Told}
-use Rattle.ec_law_turns.proofs.Basics.{equal, put_here, some_none, unequal}
+use Rattle.ec_law_turns.proofs.Basics.{equal, put_here, unequal}
 use Rattle.ec_law_turns.proofs.Sends.{of_after, moment_after, said_after}
 
 -- ## Heal locks
@@ -122,16 +122,16 @@ module _ (n k g : ℕ) (m : Net) (v : View) (l : LocksStand n g m v) (o : Once g
       own_body : (a : Asking) → IsOwnAsk g a → ToBrick (Ask a.gfid a.domain a.kind) ≡ ToBrick (Ask a.gfid Inode Exclusive)
       own_body a h = ap (λ (d : Domain). ToBrick (Ask a.gfid d a.kind)) h.domain ∙ ap (λ (y : LockKind). ToBrick (Ask a.gfid Inode y)) h.kind
 
-  ready : (owed : List Owed) (books : Books) → Replied g m.said v.of owed v.core books → (q : Request) → msg.body ≡ ToBrick q → IsSound g m.said v.of v.core.moment msg.call msg.brick msg.no q → Told n k g m.said v.of v.core (v.of msg.no) msg.brick q → v.maker ≡ None → MakesByMaker g m.said v.maker msg.call msg.brick q → Ready n k g m v (v.of msg.no) msg.brick q
-  ready owed books r (Query x grant) body s t none made = λ on h z. let o = s on in record { own = o.0.turn; early = heard_early owed books r x grant body on o.0.turn h; moment = o.1; once = unseen x grant body on o.0.begun (saw v.core (v.of msg.no) msg.brick) refl; first = z; real = real o.0.begun }
-  ready owed books r (PreOp x grant at number) body s t none made = λ on. let o = s on in let u = t on in record { own = o.0.turn; ballot = record { real = real o.0.begun; number = let z = ap (λ (p : Ballot). p.number) u.ballot in let y = u.above in omega (arith, z, y) }; base = ap (λ (p : Ballot). p.base) u.ballot; raised = ap (λ (p : Ballot). p.number) u.ballot; ready = pre_ready (is_marked at) (unraised (PreOp x grant at number) body refl (ap (λ (y : ℕ). Some y) on) o.0.begun (v.core.pre (v.of msg.no) msg.brick) refl) u.ready }
-  ready owed books r (PostOp x grant at version size attr) body s t none made = λ on. let o = s on in let u = t on in record { own = o.turn; ballot = record { real = real o.begun; number = u.ballot }; base = u.base; target = u.target; mark = u.mark; quorum = u.quorum; ready = post_ready o.begun (is_marked at) (unposted (PostOp x grant at version size attr) body refl (ap (λ (y : ℕ). Some y) on) o.begun (v.core.post (v.of msg.no) msg.brick) refl) u.ready }
-  ready owed books r (Clear x grant at) body s t none made = λ on. let o = s on in let u = t on in record { own = o.0.turn; target = u.target; unmarked = o.1; here = u.all msg.brick below; all = u.all; real = real o.0.begun }
-  ready owed books r (Make x grant child) body s t none made = λ on. absurd (some_none _ (sym (made on).maker_is ∙ none))
-  ready owed books r (Made x grant child) body s t none made = λ on. absurd (some_none _ (sym (made on).maker_is ∙ none))
-  ready owed books r (Mark x grant heal head) body s t none made = λ on. absurd (s on)
-  ready owed books r (Unmark x grant at dirty) body s t none made = λ on. absurd (s on)
-  ready owed books r q body s t none made = tt
+  ready : (owed : List Owed) (books : Books) → Replied g m.said v.of owed v.core books → (q : Request) → msg.body ≡ ToBrick q → IsSound g m.said v.of v.core.moment msg.call msg.brick msg.no q → Told n k g m.said v.of v.core (v.of msg.no) msg.brick q → MakeReady g m v msg.brick q → Ready n k g m v (v.of msg.no) msg.brick q
+  ready owed books r (Query x grant) body s t made = λ on h z. let o = s on in record { own = o.0.turn; early = heard_early owed books r x grant body on o.0.turn h; moment = o.1; once = unseen x grant body on o.0.begun (saw v.core (v.of msg.no) msg.brick) refl; first = z; real = real o.0.begun }
+  ready owed books r (PreOp x grant at number) body s t made = λ on. let o = s on in let u = t on in record { own = o.0.turn; ballot = record { real = real o.0.begun; number = let z = ap (λ (p : Ballot). p.number) u.ballot in let y = u.above in omega (arith, z, y) }; base = ap (λ (p : Ballot). p.base) u.ballot; raised = ap (λ (p : Ballot). p.number) u.ballot; ready = pre_ready (is_marked at) (unraised (PreOp x grant at number) body refl (ap (λ (y : ℕ). Some y) on) o.0.begun (v.core.pre (v.of msg.no) msg.brick) refl) u.ready }
+  ready owed books r (PostOp x grant at version size attr) body s t made = λ on. let o = s on in let u = t on in record { own = o.turn; ballot = record { real = real o.begun; number = u.ballot }; base = u.base; target = u.target; mark = u.mark; quorum = u.quorum; ready = post_ready o.begun (is_marked at) (unposted (PostOp x grant at version size attr) body refl (ap (λ (y : ℕ). Some y) on) o.begun (v.core.post (v.of msg.no) msg.brick) refl) u.ready }
+  ready owed books r (Clear x grant at) body s t made = λ on. let o = s on in let u = t on in record { own = o.0.turn; target = u.target; unmarked = o.1; here = u.all msg.brick below; all = u.all; real = real o.0.begun }
+  ready owed books r (Make x grant child) body s t made = λ on grant none gone. made on grant
+  ready owed books r (Made x grant child) body s t made = λ on grant gone. made on grant
+  ready owed books r (Mark x grant heal head) body s t made = λ on. absurd (s on)
+  ready owed books r (Unmark x grant at dirty) body s t made = λ on. absurd (s on)
+  ready owed books r q body s t made = tt
 
 -- ## Entries
 
@@ -173,9 +173,9 @@ module _ (geometry : Geometry) (g : ℕ) (m : Net) (v : View) (b : Books) (msg :
       none false h xs = refl
   sent_known (ToBrick q) e = nothing geometry.n (quorum geometry) v.core
 
-pub known_of : (geometry : Geometry) (g : ℕ) (m : Net) (v : View) (b b' : Books) (e : Entry) → MayEnter geometry.n m e → EntryKept m b e → Linked geometry.n g m v → LocksStand geometry.n g m v → LocksStand geometry.n g (net_after m e) (seen_after g m v e) → Once g m.said m.flying v.of v.core → Replied g m.said v.of m.owed v.core b → v.maker ≡ None → MadeByMaker g m v → Known geometry g m v b → Known geometry g (net_after m e) (seen_after g m v e) b' → Shown geometry g m.said m.next v.turn v.of m.owed v.core b → EntryKnown geometry.n (quorum geometry) g m v e
-known_of geometry g m v b b' (Sent msg) may kept link l l' did heard none made known known' shown = sent_known geometry g m v b msg may.0 may.1 kept link l known shown known'.sound msg.body refl
-known_of geometry g m v b b' (Executed i version failed) may kept link l l' did heard none made known known' shown =
+pub known_of : (geometry : Geometry) (g : ℕ) (m : Net) (v : View) (b b' : Books) (e : Entry) → MayEnter geometry.n m e → EntryKept m b e → Linked geometry.n g m v → LocksStand geometry.n g m v → LocksStand geometry.n g (net_after m e) (seen_after g m v e) → Once g m.said m.flying v.of v.core → Replied g m.said v.of m.owed v.core b → MakesReady g m v → Known geometry g m v b → Known geometry g (net_after m e) (seen_after g m v e) b' → Shown geometry g m.said m.next v.turn v.of m.owed v.core b → EntryKnown geometry.n (quorum geometry) g m v e
+known_of geometry g m v b b' (Sent msg) may kept link l l' did heard made known known' shown = sent_known geometry g m v b msg may.0 may.1 kept link l known shown known'.sound msg.body refl
+known_of geometry g m v b b' (Executed i version failed) may kept link l l' did heard made known known' shown =
     let msg = may.message in
     let q = may.request in
     let no = (known.messages.number i msg may.at.said).0 in
@@ -184,7 +184,7 @@ known_of geometry g m v b b' (Executed i version failed) may kept link l l' did 
     let sound = known.sound msg.no msg q (ap m.said no ∙ may.at.said) may.at.body in
     subst (λ (o : Option Message). MessageKnown geometry.n (quorum geometry) g m v o version failed) (sym may.at.said)
     (subst (λ (z : Body). BodyKnown geometry.n (quorum geometry) g m v msg z version failed) (sym may.at.body) (
-      ready geometry.n (quorum geometry) g m v l did msg (ap m.flying no ∙ may.at.flying) (ap m.said no ∙ may.at.said) (link.to i msg q may.at.said may.at.body) m.owed b heard q may.at.body sound asked none (made msg.no msg q (ap m.said no ∙ may.at.said) may.at.body),
+      ready geometry.n (quorum geometry) g m v l did msg (ap m.flying no ∙ may.at.flying) (ap m.said no ∙ may.at.said) (link.to i msg q may.at.said may.at.body) m.owed b heard q may.at.body sound asked (made msg.no msg q (ap m.said no ∙ may.at.said) may.at.body (ap m.flying no ∙ may.at.flying)),
       heals_ready g m v (executed_as m msg out) v.of (seen_after g m v (Executed i version failed)).core.moment msg.brick (m.brick msg.brick).asks out.brick.asks (by_net may) (are may),
     ))
   where
@@ -199,6 +199,6 @@ known_of geometry g m v b b' (Executed i version failed) may kept link l l' did 
         let out = out_of m may.message may.request version failed in
         let h = l'.asks may.message.brick (link.to i may.message may.request may.at.said may.at.body) in
         subst (λ (z : Brick). AreAsks (executed_as m may.message out) may.message.brick z.asks) (put_here m.brick may.message.brick out.brick may.message.brick refl) (subst (λ (t : Net). AreAsks t may.message.brick (t.brick may.message.brick).asks) (after_is may) h)
-known_of geometry g m v b b' (Cut client x) may kept link l l' did heard none made known known' shown =
+known_of geometry g m v b b' (Cut client x) may kept link l l' did heard made known known' shown =
     heals_ready g m v (net_after m (Cut client x)) v.of (seen_after g m v (Cut client x)).core.moment x (m.brick x).asks (cut_off (m.brick x) client).brick.asks known'.sound (subst (λ (z : Brick). AreAsks (net_after m (Cut client x)) x z.asks) (put_here m.brick x (cut_off (m.brick x) client).brick x refl) (l'.asks x may.0))
-known_of geometry g m v b b' e may kept link l l' did heard none made known known' shown = tt
+known_of geometry g m v b b' e may kept link l l' did heard made known known' shown = tt

@@ -66,7 +66,7 @@ plain_first (Replaced b removed all) es h = (tt, h)
 
 module _ (geometry : Geometry) (left : ℕ → Leaving) (none : (a : ℕ) → (left a).kept ≡ None) where
   -- what a call begins with stays
-  given_stays : (m : Net) (t : Story) (b : Books) (e : Entry) → MayEnter geometry.n m e → Numbers geometry m.said m.owed m.calls m.asker b → (a : ℕ) (given : Given) → b.given a ≡ Some given → (booked geometry left m t b e).given a ≡ Some given
+  pub given_stays : (m : Net) (t : Story) (b : Books) (e : Entry) → MayEnter geometry.n m e → Numbers geometry m.said m.owed m.calls m.asker b → (a : ℕ) (given : Given) → b.given a ≡ Some given → (booked geometry left m t b e).given a ≡ Some given
   given_stays m t b (Called x client op) may k a given h = put_there b.given x (Some (given_to geometry t b client op)) a (λ z. let le = (k.given_below a given h).0 in let e = may.0 in omega (arith, z, le, e)) ∙ h
   given_stays m t b (Sent msg) may k a given h = ap (λ (f : ℕ → Option Given). f a) (sent_same geometry m b k msg msg.body).0 ∙ h
   given_stays m t b (Heard i) may k a given h = ap (λ (f : ℕ → Option Given). f a) (heard_given geometry m b k (m.said i)) ∙ h

@@ -1,4 +1,4 @@
--- What a brick says to a Query, a PreOp and a PostOp: it refuses, or the request was done.
+-- What a brick says to a Query, a PreOp, a PostOp and a Make: it refuses, or the request was done.
 use Rattle.std.proofs.Common.{◌≡◌, ◌⊎◌, ℕ, Bool, true, false, not, cond, ◌==◌, ◌&&◌, ◌||◌, Option, Some, None, List, refl, sym, ◌∙◌, ap, subst, inl, inr}
 use Rattle.std.specs.Option.{option_map}
 use Rattle.ec_attr.specs.GoodGroup.{same_kind}
@@ -6,6 +6,7 @@ use Rattle.ec_attr.specs.Marks.{is_marked, stripped}
 use Rattle.ec_attr.specs.declared.attr.Attr.{Attr}
 use Rattle.ec_attr.specs.declared.gfid.Gfid.{Gfid}
 use Rattle.ec_attr.specs.declared.head.Head.{Head}
+use Rattle.ec_attr.specs.declared.kind.Child.{Child}
 use Rattle.ec_attr.specs.declared.kind.Domain.TheVariants.{Inode, Heal}
 use Rattle.ec_attr.specs.declared.kind.LockKind.TheVariants.{Shared, Exclusive}
 use Rattle.ec_locks.specs.Table.{holds}
@@ -14,7 +15,7 @@ use Rattle.ec_store.specs.Records.{Record, head_at}
 use Rattle.ec_wire.specs.declared.reply.Reply.{Reply}
 use Rattle.ec_wire.specs.declared.reply.Reply.TheVariants.{Done, Fault, Head as HeadIs, IsInode, NoGrant}
 use Rattle.ec_wire.specs.declared.request.Request.{Request}
-use Rattle.ec_wire.specs.declared.request.Request.TheVariants.{Query, PreOp, PostOp}
+use Rattle.ec_wire.specs.declared.request.Request.TheVariants.{Query, PreOp, PostOp, Make}
 use Rattle.ec_brick.specs.Replies.{Says, Is, Replies, of_record, own_of}
 use Rattle.ec_brick.specs.Rows.{fence, heal_fence, is_writers, meets, other_kind, refusal}
 use Rattle.ec_brick.specs.State.{State as Brick}
@@ -92,6 +93,9 @@ module _ (s : Brick) (q : Request) (r : Row) where
 abbrev own : Gfid → ℕ → Need → Check → Row
 own x n need check = record { gfid = x; grant = n; need = need; heal = None; subject = x; check = check }
 
+abbrev of_child : Gfid → ℕ → Gfid → Row
+of_child x n child = record { gfid = x; grant = n; need = Writing; heal = None; subject = child; check = Absent }
+
 -- ## What a reply tells
 
 refused_not : (says : Says) → IsRefused says → (reply : Reply) → Replies says (Some reply) → is_done (Some reply) ≡ true → ⊥
@@ -107,6 +111,9 @@ module _ (s : Brick) (f : Failing) (client number : ℕ) where
 
   pub says_post : (x : Gfid) (n at version size : ℕ) (attr : Option Attr) (reply : Reply) → Replies (executed s f client number (PostOp x n at version size attr)).says (Some reply) → is_done (Some reply) ≡ true → (executed s f client number (PostOp x n at version size attr)).says ≡ Is Done
   says_post x n at version size attr reply = done_by (PostOp x n at version size attr) (own x n Writing (At at)) (executed s f client number (PostOp x n at version size attr)).says refl (says s (PostOp x n at version size attr) (own x n Writing (At at)) f) reply
+
+  pub says_make : (x : Gfid) (n : ℕ) (child : Child) (reply : Reply) → Replies (executed s f client number (Make x n child)).says (Some reply) → is_done (Some reply) ≡ true → (executed s f client number (Make x n child)).says ≡ Is Done
+  says_make x n child reply = done_by (Make x n child) (of_child x n child.gfid) (executed s f client number (Make x n child)).says refl (says s (Make x n child) (of_child x n child.gfid) f) reply
 
   -- a head is that of the record, and the Query came under a grant
   pub says_head : (x : Gfid) (n : ℕ) (h : Head) → Replies (executed s f client number (Query x n)).says (Some (HeadIs h)) → ((executed s f client number (Query x n)).says ≡ Is (HeadIs h)) × (head_at s.records x.0 ≡ Some h) × (holds s.asks n x Inode Shared ≡ true)

@@ -206,7 +206,7 @@ module _ (geometry : Geometry) (g : ℕ) (m : Net) (v : View) (b : Books) (msg :
           let f = k.calls msg.call made.1 made.2 in
           let q = Ask old.gfid Inode old.kind in
           let is : IsSaid m.said msg.call msg.brick j q = record { message = old.message; is = old.said; call = call; brick = old.brick ∙ sym brick; body = old.body } in
-          ⊎_elim (λ z. some_none (wait_of j q) (sym z ∙ free c msg.brick (Ask new.gfid Inode new.kind) allowed.0 refl)) (λ z. let so = has_tried is_lock j q refl ((c.on g).place msg.brick).window z in let none = subst (λ (y : ℕ). tried is_lock ((c.on y).place msg.brick).window ≡ false) new.on allowed.1 in let y = sym so ∙ none in cc) (f.sent msg.brick j q is (ap (λ (y : ℕ). Some y) old.on) refl (e ∙ ap (λ (y : ℕ). Some y) (sym of)))
+          ⊎_elim (λ z. some_none (wait_of j q) (sym z ∙ free c msg.brick (Ask new.gfid Inode new.kind) allowed.0 refl)) (λ z. let so = has_tried is_lock j q refl ((c.on g).place msg.brick).window z in let none = subst (λ (y : ℕ). tried is_lock ((c.on y).place msg.brick).window ≡ false) new.on allowed.1.0 in let y = sym so ∙ none in cc) (f.sent msg.brick j q is (ap (λ (y : ℕ). Some y) old.on) refl (e ∙ ap (λ (y : ℕ). Some y) (sym of)))
 
       at : msg.body ≡ ToBrick (Ask new.gfid Inode new.kind) → msg.brick ≡ x → turn_of g v msg ≡ a → (t : Bool) → renewed ≡ t → ⊥
       at body brick turn true h =

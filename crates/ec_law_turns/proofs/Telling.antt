@@ -6,6 +6,7 @@ use Rattle.ec_attr.specs.Marks.{is_marked, stripped}
 use Rattle.ec_attr.specs.declared.attr.Attr.{Attr}
 use Rattle.ec_attr.specs.declared.gfid.Gfid.{Gfid}
 use Rattle.ec_attr.specs.declared.head.Head.{Head}
+use Rattle.ec_attr.specs.declared.kind.Child.{Child}
 use Rattle.ec_attr.specs.declared.kind.Domain.{Domain}
 use Rattle.ec_attr.specs.declared.kind.Domain.TheVariants.{Inode}
 use Rattle.ec_attr.specs.declared.kind.LockKind.{LockKind}
@@ -22,14 +23,14 @@ use Rattle.ec_wire.specs.declared.message.Message.{Message}
 use Rattle.ec_wire.specs.declared.reply.Reply.{Reply}
 use Rattle.ec_wire.specs.declared.reply.Reply.TheVariants.{Done, Head as HeadIs}
 use Rattle.ec_wire.specs.declared.request.Request.{Request}
-use Rattle.ec_wire.specs.declared.request.Request.TheVariants.{Ask, Query, PreOp, PostOp}
+use Rattle.ec_wire.specs.declared.request.Request.TheVariants.{Ask, Query, PreOp, PostOp, Make}
 use Rattle.ec_brick.specs.Replies.{Says, Nothing, Is, ShowsChunks, ShowsNames, ShowsGfids, Replies}
 use Rattle.ec_brick.specs.State.{State as Brick}
 use Rattle.ec_brick.specs.Step.{Failing, Out, cut_off, executed}
 use Rattle.ec_history.specs.Run.{Net, Owed, failing, granted_owed, let_in_owed, own_owed}
 use Rattle.ec_law_base.specs.State.{Ballot, Head as Seen, State, put2}
 use Rattle.ec_law_ballots.specs.Act.{after}
-use Rattle.ec_law_ballots.specs.Act.Act.{Post, Pre, See, Sink_post, Sink_pre}
+use Rattle.ec_law_ballots.specs.Act.Act.{Make as Makes, Post, Pre, See, Sink_post, Sink_pre}
 use Rattle.ec_law_ballots.specs.Words.{head}
 use Rattle.ec_law_net.specs.Grants.{AreAsks, IsAskOf, LocksStand}
 use Rattle.ec_law_net.specs.Link.{IsHead, Linked}
@@ -39,11 +40,11 @@ use Rattle.ec_law_net.proofs.Locks.{held}
 use Rattle.ec_law_net.proofs.Tables.{Each}
 use Rattle.ec_law_turns.specs.Follows.{IsLock}
 use Rattle.ec_law_turns.specs.Shown.{IsTold, OwedShown, Tells}
-use Rattle.ec_law_turns.proofs.Basics.{itself, some_is}
+use Rattle.ec_law_turns.proofs.Basics.{itself, put_here, some_is}
 use Rattle.ec_law_turns.proofs.Did.{Same, locks as locks_same}
 use Rattle.ec_law_turns.proofs.Granting.{LetsIn, Nobody, Some_leave, each_asks, lets_in}
 use Rattle.ec_law_turns.proofs.Letting.{each_by_queue, each_let_in}
-use Rattle.ec_law_turns.proofs.Says.{says_head, says_post, says_pre}
+use Rattle.ec_law_turns.proofs.Says.{says_head, says_make, says_post, says_pre}
 use Rattle.ec_law_turns.proofs.Still.{locks as locks_still, worked as worked_still}
 use Rattle.ec_law_turns.proofs.Tracks.{request_is}
 
@@ -117,6 +118,13 @@ module _ (g a b : ℕ) (holder : Option ℕ) (s : State) where
       by true true h i = absurd (cc)
       by false u h i = absurd (cc)
 
+  make_done : (x : Gfid) (n : ℕ) (child : Child) (says : Says) → child.gfid.0 ≡ g → says ≡ Is Done → (after (acts_worked g a b holder (Make x n child) says) s).born b ≡ true
+  make_done x n child says on e = subst (λ (z : Says). (after (acts_worked g a b holder (Make x n child) z) s).born b ≡ true) (sym e) (by (child.gfid.0 == g) (is_itself child.gfid.0 g on))
+    where
+      by : (t : Bool) → t ≡ true → (after (cond t (Makes b ∷ []) []) s).born b ≡ true
+      by true h = put_here s.born b true b refl
+      by false h = absurd (cc)
+
   head_shown : (x : Gfid) (n : ℕ) (h : Head) (says : Says) → x.0 ≡ g → holder ≡ Some n → says ≡ Is (HeadIs h) → (after (acts_worked g a b holder (Query x n) says) s).seen a b ≡ Some (head s b)
   head_shown x n h says on holds e = subst (λ (z : Says). (after (acts_worked g a b holder (Query x n) z) s).seen a b ≡ Some (head s b)) (sym e) (subst (λ (o : Option ℕ). (after (acts_worked g a b o (Query x n) (Is (HeadIs h))) s).seen a b ≡ Some (head s b)) (sym holds) (by (x.0 == g) (n == n) (is_itself x.0 g on) (itself n)))
     where
@@ -182,6 +190,7 @@ module _ (n g : ℕ) (m : Net) (v : View) (link : Linked n g m v) (l : LocksStan
           (λ none. inl (ap (λ (f : ℕ → ℕ → Option Seen). f (v.of msg.no) msg.brick) (same (Query x i)).seen ∙ (head_shown g (v.of msg.no) msg.brick holder_of v.core x i y (out (Query x i)).says on (counts none has) o.0 ∙ ap (λ (z : Seen). Some z) (head_is v.core msg.brick y is))))
           (λ lt. inr (subst (λ (z : Ballot). 0 < z.number) (sym (ballots (Query x i) (v.of msg.no))) lt))
           (zero_or (v.core.ballot (v.of msg.no)).number)
+  tells (Make x i child) reply locked h = λ on so. ap (λ (f : ℕ → Bool). f msg.brick) (same (Make x i child)).born ∙ make_done g (v.of msg.no) msg.brick holder_of v.core x i child (out (Make x i child)).says on (says_make brick (failing failed version) client number x i child reply h so)
   tells q reply locked h = tt
 
 -- ## What is owed

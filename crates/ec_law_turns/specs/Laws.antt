@@ -16,7 +16,7 @@ use Rattle.ec_law_net.specs.Grants.{AsksOnce}
 use Rattle.ec_law_net.specs.Start.{first_view}
 use Rattle.ec_law_net.specs.Turns.{View, seen_after, view}
 use Rattle.ec_law_turns.specs.Makers.{DoneUnderDirectory, MadeByMaker, NewWhereMade}
-use Rattle.ec_law_turns.specs.Orderly.{ArePlain, IsNoChild, IsOrderly}
+use Rattle.ec_law_turns.specs.Orderly.{ArePlain, IsOrderly}
 
 -- at the beginning and after each entry
 abbrev pub Always : (Net → View → Type 0) → ℕ → List Entry → Net → View → Type 0
@@ -46,14 +46,13 @@ pub record MakerLaws : Type 0 where
   -- such a gfid is a new one
   pub new : InEveryLog NewWhereMade
 
--- A law of versions after every such log, seen from any gfid that is no child which a call of the log makes.
+-- A law of versions after every such log, seen from any gfid, the children too that calls of the log make.
 abbrev pub AfterEveryOrderlyLog : (ℕ → ℕ → State → Type 0) → Type 0
 AfterEveryOrderlyLog law =
     (config : Config) (records : ℕ → Records) (bricks : ℕ → Brick) (tree : Tree) (next g : ℕ) (call : ℕ → ℕ) (es : List Entry)
     → IsStart config records bricks tree next
     → IsRun config.geometry.n es (fresh bricks)
     → ArePlain es
-    → IsNoChild g next es
     → IsOrderly config.geometry es (fresh bricks) (opening tree next)
     → law config.geometry.n (quorum config.geometry) (view g es (fresh bricks) (first_view config.geometry.n (tree g).version records g call next)).core
 

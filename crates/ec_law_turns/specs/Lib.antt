@@ -1,9 +1,11 @@
+pub mod Births
 pub mod Follows
 pub mod Known
 pub mod Laws
 pub mod Makers
 pub mod Once
 pub mod Orderly
+pub mod Reached
 pub mod Replied
 pub mod Shown
 pub mod Sound

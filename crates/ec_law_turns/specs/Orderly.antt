@@ -1,5 +1,5 @@
--- Logs in which every call keeps the conduct, and three rules of order that the conduct does not state yet.
-use Rattle.std.specs.Prelude.{◌≡◌, ◌⊎◌, ℕ, ◌+◌, ◌<◌, ◌≤◌, Bool, true, false, cond, None, Some, List, [], ◌∷◌}
+-- Logs in which every call keeps the conduct, and four rules of order that the conduct does not state yet.
+use Rattle.std.specs.Prelude.{◌≡◌, ℕ, Bool, true, false, None, Some, List, [], ◌∷◌}
 use Rattle.ec_attr.specs.declared.geometry.Geometry.{Geometry}
 use Rattle.ec_attr.specs.declared.kind.Domain.TheVariants.{Inode}
 use Rattle.ec_attr.specs.declared.kind.LockKind.TheVariants.{Shared}
@@ -7,17 +7,18 @@ use Rattle.ec_wire.specs.declared.entry.Entry.{Entry}
 use Rattle.ec_wire.specs.declared.entry.Entry.TheVariants.{Called}
 use Rattle.ec_wire.specs.declared.op.Op.{Op}
 use Rattle.ec_wire.specs.declared.request.Request.{Request}
-use Rattle.ec_wire.specs.declared.request.Request.TheVariants.{Ask, PreOp, PostOp}
+use Rattle.ec_wire.specs.declared.request.Request.TheVariants.{Ask, PreOp, PostOp, Make}
 use Rattle.ec_conduct.specs.Account.{Account, after, at}
 use Rattle.ec_conduct.specs.Conduct.{Keeps}
-use Rattle.ec_conduct.specs.Done.{is_lock, is_post, tried}
+use Rattle.ec_conduct.specs.Data.{makes_child}
+use Rattle.ec_conduct.specs.Done.{is_lock, is_make, is_post, tried}
 use Rattle.ec_conduct.specs.Given.{Given}
 use Rattle.ec_conduct.specs.Opened.{opened}
 use Rattle.ec_conduct.specs.Own.{Own, Sends, Hears, GivesUp, Answers}
 use Rattle.ec_conduct.specs.Standing.{Every}
 use Rattle.ec_history.specs.Accounts.{Leaving, books, no_books}
 use Rattle.ec_history.specs.Run.{Net}
-use Rattle.ec_history.specs.Story.{Story, is_heal, makes_a_child}
+use Rattle.ec_history.specs.Story.{Story, is_heal}
 
 -- ## Order
 
@@ -26,12 +27,18 @@ abbrev pub is_shared : Request → Bool
 is_shared (Ask g Inode Shared) = true
 is_shared r = false
 
+-- The call begins no second window on the directory in which it makes its child: it asks for its content only before the
+-- Queries.
+abbrev pub HasOneWindow : Account → ℕ → Type 0
+HasOneWindow c g = makes_child c.given.op g ≡ true → (c.on g).queried ≡ None
+
 -- In one window a brick is asked for the content once, a ballot is taken only where no lock is shared, and a PostOp goes to
--- a brick once.
+-- a brick once. A call that makes a child has one window on its directory, and sends a brick one Make there.
 abbrev pub InOrder : Account → ℕ → Request → Type 0
-InOrder c b (Ask g Inode kind) = tried is_lock (at c g.0 b).window ≡ false
+InOrder c b (Ask g Inode kind) = (tried is_lock (at c g.0 b).window ≡ false) × HasOneWindow c g.0
 InOrder c b (PreOp g grant version dirty) = Every c (λ x. tried is_shared (at c g.0 x).window ≡ false)
 InOrder c b (PostOp g grant old new size attr) = tried is_post (at c g.0 b).window ≡ false
+InOrder c b (Make g grant child) = tried is_make (at c g.0 b).window ≡ false
 InOrder c b r = Unit {0}
 
 abbrev pub Ordered : Account → Own → Type 0
@@ -58,16 +65,6 @@ abbrev pub ArePlain : List Entry → Type 0
 ArePlain [] = Unit {0}
 ArePlain (Called a client op ∷ es) = IsPlain op × ArePlain es
 ArePlain (e ∷ es) = ArePlain es
-
--- how many children the calls of a log make
-abbrev pub children : List Entry → ℕ
-children [] = 0
-children (Called a client op ∷ es) = cond (makes_a_child op) (1 + children es) (children es)
-children (e ∷ es) = children es
-
--- Calls take the gfids of their children from `next` on, one after another: this gfid is none of those.
-abbrev pub IsNoChild : ℕ → ℕ → List Entry → Type 0
-IsNoChild g next es = (g < next) ⊎ (next + children es ≤ g)
 
 -- Every call's own entries keep the conduct and its order; no call leaves grants to its client's next one.
 pub record IsOrderly (geometry : Geometry) (es : List Entry) (m : Net) (t : Story) : Type 0 where

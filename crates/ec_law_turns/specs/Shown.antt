@@ -9,7 +9,7 @@ use Rattle.ec_wire.specs.declared.message.Message.{Message}
 use Rattle.ec_wire.specs.declared.reply.Reply.{Reply}
 use Rattle.ec_wire.specs.declared.reply.Reply.TheVariants.{Head as HeadIs}
 use Rattle.ec_wire.specs.declared.request.Request.{Request}
-use Rattle.ec_wire.specs.declared.request.Request.TheVariants.{Query, PreOp, PostOp}
+use Rattle.ec_wire.specs.declared.request.Request.TheVariants.{Query, PreOp, PostOp, Make}
 use Rattle.ec_brick.specs.Replies.{Replies}
 use Rattle.ec_conduct.specs.Account.{Account, Dealings, Exchange, Wait, gfid_of}
 use Rattle.ec_conduct.specs.Done.{is_done, is_query, reply_to}
@@ -28,11 +28,12 @@ use Rattle.ec_law_turns.specs.Told.{Told}
 -- ## Replies
 
 -- What a reply to a request of turn a tells of brick b: a head that was shown under an exclusive grant is the one that the
--- machine saw there, unless the turn had its ballot by then; and what was done on an unmarked record counts.
+-- machine saw there, unless the turn had its ballot by then; what was done on an unmarked record counts, and so does a Make.
 abbrev pub Tells : ℕ → (ℕ → Option Message) → State → ℕ → ℕ → Request → Reply → Type 0
 Tells g said s a b (Query x n) (HeadIs h) = x.0 ≡ g → OfAsk g said n (λ y. (s.seen a b ≡ Some (seen_head (Some h))) ⊎ (0 < (s.ballot a).number))
 Tells g said s a b (PreOp x n at dirty) reply = x.0 ≡ g → is_done (Some reply) ≡ true → is_marked at ≡ false → s.pre a b ≡ true
 Tells g said s a b (PostOp x n at version size attr) reply = x.0 ≡ g → is_done (Some reply) ≡ true → is_marked at ≡ false → s.post a b ≡ true
+Tells g said s a b (Make x n child) reply = child.gfid.0 ≡ g → is_done (Some reply) ≡ true → s.born b ≡ true
 Tells g said s a b q reply = Unit {0}
 
 -- message i was sent, and this is told by the reply to it

@@ -3,11 +3,12 @@
 // `Orderly` says which logs are meant, `Follows` how a call's account stands to the log, `Sound` what follows of each message,
 // `Once` which requests a turn sends a brick once, and `Known` puts the first two together. `Replied` and `Shown` are what
 // bricks told the calls of grants, of heads and of what they did, `Told` what a PreOp, a PostOp and a Clear stand on, `Makers`
-// who makes a record, and `Laws` what follows of every such log; `WorkedChildren` is an example. Nothing of it runs.
+// who makes a record, and `Births` what each Make and Made stands on. `Reached` puts all but the last together, and `Laws` says
+// what follows of every such log; `WorkedChildren` is an example. Nothing of it runs.
 #![tactic(auto)]
 
 ghost use Rattle.ec_law_turns.specs.Laws.{MakerLaws, OrderlyLaws, TurnLaws};
-ghost use Rattle.ec_law_turns.specs.WorkedChildren.{ChildrenAreTwo};
+ghost use Rattle.ec_law_turns.specs.WorkedChildren.{ChildAsActs};
 
 /// In every log that begins with bricks that stand, in which no call heals or sweeps, and each call keeps the conduct in order
 /// and leaves no grants: a turn asks each brick once for the content. It does nothing when it runs.
@@ -24,15 +25,17 @@ pub fn maker_laws()
     ensures { MakerLaws }
 {}
 
-/// The laws of versions for every such log, seen from any gfid that is no child which a call of the log makes: what the calls
-/// knew of heads, ballots and PreOps is shown from the conduct and from what the bricks replied. It does nothing when it runs.
+/// The laws of versions for every such log, seen from any gfid, the children too that calls of the log make: what the calls
+/// knew of heads, ballots, PreOps and Makes is shown from the conduct and from what the bricks replied. It does nothing when
+/// it runs.
 #[tactic(auto, using(crate::proofs::OrderlyRuns::laws))]
 pub fn orderly_laws()
     ensures { OrderlyLaws }
 {}
 
-/// Of a log with a mkdir and a create two gfids are children, and no others. It does nothing when it runs.
-#[tactic(auto, using(crate::proofs::WorkedChildren::children_are_two))]
+/// Of a create that makes its child at one brick, the acts of the child's machine: its maker counts there before any record
+/// was made, and not at a brick that it locks later. It does nothing when it runs.
+#[tactic(auto, using(crate::proofs::WorkedChildren::child_as_acts))]
 pub fn worked_children()
-    ensures { ChildrenAreTwo }
+    ensures { ChildAsActs }
 {}

@@ -1,0 +1,5 @@
+pub mod Counting
+pub mod Numbered
+pub mod Shrinking
+pub mod Entries
+pub mod Ranked

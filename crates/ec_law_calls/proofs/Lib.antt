@@ -1,0 +1,14 @@
+pub mod Asking
+pub mod Callers
+pub mod ChildTables
+pub mod Clean
+pub mod Fronts
+pub mod Gfids
+pub mod NameTables
+pub mod Ordered
+pub mod ReadTables
+pub mod Sends
+pub mod Stages
+pub mod Windows
+pub mod Worlds
+pub mod WriteTables

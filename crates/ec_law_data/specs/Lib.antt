@@ -1,0 +1,9 @@
+pub mod Reading
+pub mod Deeds
+pub mod Link
+pub mod Forms
+pub mod Coding
+pub mod Owing
+pub mod Versions
+pub mod Laws
+pub mod WorkedData

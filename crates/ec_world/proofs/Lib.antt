@@ -11,7 +11,9 @@ pub mod Held
 pub mod Naming
 pub mod Outcomes
 pub mod Permitting
+pub mod Reporting
 pub mod Settled
 pub mod InNet
+pub mod Versions
 pub mod Waiting
 pub mod Whole

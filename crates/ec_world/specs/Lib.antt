@@ -1,10 +1,12 @@
 pub mod Address
 pub mod Events
 pub mod Refusals
+pub mod Report
 pub mod Resting
 pub mod Settling
 pub mod Steps
 pub mod Unanswered
 pub mod UnderWay
+pub mod Versions
 pub mod Whole
 pub mod World

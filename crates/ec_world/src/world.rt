@@ -4,10 +4,17 @@ ghost use Rattle.std.specs.List.{list_all};
 ghost use Rattle.ec_brick.specs.Opening.{IsForeign};
 ghost use Rattle.ec_brick.specs.State.{State};
 ghost use Rattle.ec_clients.specs.Calls.{tabled};
-ghost use Rattle.ec_cluster.specs.Open.{AreAccepted, AreKept, AreRooted, AreUnused, HasRisen, IsAfterTaken, IsEmpty, IsFaultOf, IsNextGfid, opened};
+ghost use Rattle.ec_cluster.specs.Open.{AreAccepted, AreKept, AreLater, AreRooted, AreUnused, HasRisen, IsAfterTaken, IsEmpty, IsFaultOf, IsNextGfid, opened};
 ghost use Rattle.ec_cluster.specs.Views.{log_of};
+ghost use Rattle.ec_attr.specs.declared.config.Config.{Config};
+ghost use Rattle.ec_attr.specs.declared.geometry.Geometry.{Geometry};
+ghost use Rattle.ec_history.specs.Flat.{Tree};
+ghost use Rattle.ec_history.specs.IsRun.{IsRun};
 ghost use Rattle.ec_history.specs.Run.{fresh, run};
+ghost use Rattle.ec_history.specs.Starts.{IsStart};
+ghost use Rattle.ec_store.specs.Records.{Records};
 ghost use Rattle.ec_world.specs.Unanswered.{AreUnanswered};
+ghost use Rattle.ec_world.specs.Versions.{ButForMemory, HasVersions, IsFrom, VersionLaws};
 ghost use Rattle.ec_world.specs.Whole.{IsAs, IsOpen, IsUnbuilt, StaysOpen, Steps, config_of, options_of};
 ghost use Rattle.ec_world.specs.World.{FitsEvent};
 
@@ -20,6 +27,9 @@ use ec_brick::StartFault;
 use ec_calls::{AnyCall, is_built};
 use ec_clients::{Clients, Options, new_clients, set_next_gfid};
 use ec_cluster::Cluster;
+use ec_law_answers::answer_laws;
+use ec_law_calls::world_laws;
+use ec_law_commits::commit_laws;
 use ec_store::BrickStore;
 use ec_txn::Conduct;
 use ec_volfile::Volume;
@@ -43,6 +53,16 @@ fn config_of(volume: &Volume) -> Config
     Config {
         geometry: volume.geometry,
     }
+}
+
+/// After the log of every world that began with bricks that stand the laws of versions hold, and what is answered as done is
+/// committed, by one entry between its call and its answer. It does nothing when it runs.
+pub fn version_laws()
+    ensures { VersionLaws (⟦<AnyCall as Conduct>⟧.stands) (tabled (⟦<AnyCall as Conduct>⟧.begins) (⟦<AnyCall as Conduct>⟧.goes)) }
+{
+    world_laws();
+    answer_laws();
+    commit_laws();
 }
 
 /// With what the calls of a volume are begun.
@@ -81,6 +101,7 @@ impl World {
         ensures open { IfOk result (IsOpen (⟦<AnyCall as Conduct>⟧.stands) (tabled (⟦<AnyCall as Conduct>⟧.begins) (⟦<AnyCall as Conduct>⟧.goes))) }
         ensures bricks { IfOk result (λ w. w.bricks ≡ length stores.old) }
         ensures empty { IfOk result (λ w. IsEmpty w.cluster) }
+        ensures from { IfOk result (λ w. IsFrom (⟦<AnyCall as Conduct>⟧.stands) (tabled (⟦<AnyCall as Conduct>⟧.begins) (⟦<AnyCall as Conduct>⟧.goes)) w volume.now.geometry w.clients.next_gfid) }
         ensures options { IfOk result (λ w. w.clients.options ≡ options_of volume.now) }
         ensures stands { IfOk result (λ w. list_all S.told stores.old ≡ true → IsAs (⟦<AnyCall as Conduct>⟧.stands) (tabled (⟦<AnyCall as Conduct>⟧.begins) (⟦<AnyCall as Conduct>⟧.goes)) w (map S.records stores.new) (fresh (opened (config_of volume.now) (map S.records stores.new)))) }
 
@@ -94,12 +115,14 @@ impl World {
         ensures kept { list_all S.told stores.old ≡ true → ¬ (AreUnused (config_of volume.now) (length stores.old) (map S.records stores.old)) → map S.records stores.new ≡ map S.records stores.old }
         ensures part { IfErr result (λ e. list_all S.told stores.old ≡ true → (map S.records stores.new ≡ map S.records stores.old) ⊎ AreRooted (config_of volume.now) e.0 (map S.records stores.old) (map S.records stores.new)) }
 
-        // Which head is refused: one of the first store that has such. A store that failed has counted it.
+        // Which head is refused: one of the first store that has such. A store that failed has counted it, and no count
+        // falls.
         ensures refused { IfErr result (λ e. (e.0 < length stores.old) × IsForeign (config_of volume.now) e.1) }
         ensures head { IfErr result (λ e. list_all S.told stores.old ≡ true → IsFaultOf (config_of volume.now) (map S.records stores.old) e) }
         ensures first { IfErr result (λ e. list_all S.told stores.old ≡ true → AreAccepted (config_of volume.now) e.0 (map S.records stores.old)) }
         ensures accepted { OnOk result (list_all S.told stores.old ≡ true → AreAccepted (config_of volume.now) (length stores.old) (map S.records stores.old)) }
         ensures cause { IfErr result (HasRisen (map S.faults stores.old) (map S.faults stores.new)) }
+        ensures later { AreLater (map S.faults stores.old) (map S.faults stores.new) }
     {
         let mut clients = match new_clients::<AnyCall>(alloc, options_of(volume), 2) {
             Ok(clients) => clients,
@@ -135,7 +158,15 @@ impl World {
         ensures same { self.new ≡ record self.old { clients = self.new.clients; cluster = self.new.cluster } }
         ensures steps { Steps (⟦<AnyCall as Conduct>⟧.stands) (tabled (⟦<AnyCall as Conduct>⟧.begins) (⟦<AnyCall as Conduct>⟧.goes)) (list_all S.told stores.old ≡ true) event.now self.old self.new (map S.records stores.old) (map S.records stores.new) result }
         ensures open { StaysOpen (⟦<AnyCall as Conduct>⟧.stands) (tabled (⟦<AnyCall as Conduct>⟧.begins) (⟦<AnyCall as Conduct>⟧.goes)) self.new result }
+
+        // What it was begun with, and the laws of versions: no two attempts have the same one, a commit's is above those of all
+        // bricks outside it, and what is answered as done is committed.
+        ensures from { (geometry : Geometry) (first : ℕ) → IsFrom (⟦<AnyCall as Conduct>⟧.stands) (tabled (⟦<AnyCall as Conduct>⟧.begins) (⟦<AnyCall as Conduct>⟧.goes)) self.old geometry first → ButForMemory result (IsFrom (⟦<AnyCall as Conduct>⟧.stands) (tabled (⟦<AnyCall as Conduct>⟧.begins) (⟦<AnyCall as Conduct>⟧.goes)) self.new geometry first) }
+        ensures versions { (config : Config) (records : ℕ → Records) (bricks : ℕ → State) (tree : Tree) (next : ℕ)
+            → IsStart config records bricks tree next → IsFrom (⟦<AnyCall as Conduct>⟧.stands) (tabled (⟦<AnyCall as Conduct>⟧.begins) (⟦<AnyCall as Conduct>⟧.goes)) self.old config.geometry next
+            → IsRun config.geometry.n (log_of self.new.cluster) (fresh bricks) → ButForMemory result (HasVersions config records bricks tree next (log_of self.new.cluster)) }
     {
+        version_laws();
         if is_unbuilt(event) {
             return Err(Refused::Unbuilt);
         }

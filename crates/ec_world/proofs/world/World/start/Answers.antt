@@ -11,6 +11,7 @@ use Rattle.ec_history.specs.Run.{fresh}
 use Rattle.ec_store.specs.Records.{Records}
 use Rattle.ec_world.proofs.Whole.{begun_as, begun_world}
 use Rattle.ec_world.specs.Whole.{config_of, options_of}
+use Rattle.ec_world.proofs.Versions.{from_beginning}
 use Rattle.ec_world.proofs.world.World.start.Goals as goal
 
 pub returns-in-Ok-open-clause-open : goal.returns-in-Ok-open-clause-open
@@ -62,3 +63,11 @@ returns-in-Err-open-clause-first g c = λ told. subst (λ (k : Config). AreAccep
 
 pub returns-in-Ok-open-clause-accepted : goal.returns-in-Ok-open-clause-accepted
 returns-in-Ok-open-clause-accepted g c = λ told. subst (λ (k : Config). AreAccepted k (length c.args.stores.now) (map g.S.BrickStore.records c.args.stores.now)) c.config_of.ensures (c.in-Ok-open.ensures.accepted told)
+
+pub returns-in-Ok-open-clause-from : goal.returns-in-Ok-open-clause-from
+returns-in-Ok-open-clause-from g c =
+    let same = c.set_next_gfid.ensures.same in
+    let empty = c.in-Ok-open.ensures.empty in
+    let options : c.set_next_gfid.new.clients.options ≡ options_of c.args.volume.now = ap (λ (d : Clients AnyCall). d.options) same ∙ (c.in-Ok.ensures.options ∙ c.options_of.ensures) in
+    from_beginning _ _ (record { clients = c.set_next_gfid.new.clients; cluster = c.in-Ok-open.cluster; bricks = c.args.volume.now.geometry.n; alloc = c.args.alloc }) c.args.volume.now.geometry c.in-Ok-open.next c.set_next_gfid.new.clients.next_gfid (ap (λ (o : Options). o.geometry) options) (ap (λ (d : Clients AnyCall). d.next_gfid) same) empty.log
+    (λ bricks tree. c.set_next_gfid.ensures.sees c.in-Ok-open.cluster bricks tree 2 (c.in-Ok.ensures.sees c.in-Ok-open.cluster bricks tree empty.log))

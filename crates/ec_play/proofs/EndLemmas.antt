@@ -210,7 +210,7 @@ half_written M Told n logs start input xs ys old was written number line event s
 
 broken_off : {W : Type 0} (M : Meaning W) (Told : Type 0) (n : ℕ) (logs : Bool) (start : Net) (input : List ℕ) (xs ys : List ℕ) (old was written : Option (List ℕ)) (number : ℕ) (line : List ℕ) (event : Event) (s t : W) (before after : List Records)
     → M.bricks s ≡ n → (b : Between M Told logs start (Some input) (Some xs) old number s before was) → lines xs ≡ line ∷ lines ys
-    → line_order number line ≡ Ok (Some event) → Broken M Told logs start old s t after written
+    → line_order number line ≡ Ok (Some event) → Broken M Told logs start old event s t after written
     → IsBroken Told n logs start input old written (M.log t) after
 broken_off M Told n logs start input xs ys old was written number line event s t before after same b takes order off = record {
   front = b.0;
@@ -224,6 +224,7 @@ broken_off M Told n logs start input xs ys old was written number line event s t
   next = record { order = subst (λ (m : ℕ). line_order m line ≡ Ok (Some event)) b.3 order };
   parts = off.parts;
   before = λ told. rw (← same) (b.5.plays.of_script told);
+  begun = λ told. rw (← same) (off.begun told);
   cut = rw (← same) off.cut;
   text = off.text;
 }

@@ -60,13 +60,14 @@ half_told M Told logs start old events event s t before after was written g d be
 }
 
 -- an event that ends for want of memory
-pub broken : {W : Type 0} (M : Meaning W) (Told : Type 0) (logs : Bool) (start : Net) (old : Option (List ℕ)) (events : List Event) (s t : W) (before after : List Records) (was : Option (List ℕ))
-    → Goes M Told logs start old events s before was → Breaks M Told s t before after → Broken M Told logs start old s t after was
-broken M Told logs start old events s t before after was g b = record {
+pub broken : {W : Type 0} (M : Meaning W) (Told : Type 0) (logs : Bool) (start : Net) (old : Option (List ℕ)) (events : List Event) (event : Event) (s t : W) (before after : List Records) (was : Option (List ℕ))
+    → Goes M Told logs start old events s before was → Breaks M Told s t before after event → Broken M Told logs start old event s t after was
+broken M Told logs start old events event s t before after was g b = record {
   latest = b.entries;
   parts = b.goes_on;
+  begun = λ told. (b.runs told (run (M.log s) start) (g.plays.stands told)).0;
   cut = record {
-    is_run = λ told. rw b.goes_on (longer (M.bricks s) (M.log s) b.entries start (g.plays.is_run told) (b.runs told (run (M.log s) start) (g.plays.stands told)).0);
+    is_run = λ told. rw b.goes_on (longer (M.bricks s) (M.log s) b.entries start (g.plays.is_run told) (b.runs told (run (M.log s) start) (g.plays.stands told)).0.is_run);
     hold = λ told. rw b.goes_on (subst (λ (m : Net). StandsAs (M.bricks s) after m) (sym (joins (M.log s) b.entries start)) (b.runs told (run (M.log s) start) (g.plays.stands told)).1);
   };
   text = g.text;

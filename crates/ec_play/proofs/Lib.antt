@@ -1,4 +1,5 @@
 pub mod KnownLemmas
+pub mod TakenLemmas
 pub mod LineLemmas
 pub mod HeldLines
 pub mod SplitLemmas
@@ -8,4 +9,5 @@ pub mod LogLemmas
 pub mod GoingLemmas
 pub mod EndLemmas
 pub mod ToldLemmas
+pub mod SinceLemmas
 pub mod WorldLemmas

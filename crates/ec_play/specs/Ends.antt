@@ -19,7 +19,7 @@ use Rattle.ec_play.specs.declared.status.Status.{Status}
 use Rattle.ec_play.specs.declared.status.Status.TheVariants as status
 use Rattle.ec_play.specs.Lines.{lines}
 use Rattle.ec_world.specs.Unanswered.{AreUnanswered}
-use Rattle.ec_play.specs.Meaning.{Meaning}
+use Rattle.ec_play.specs.Meaning.{IsBegun, Meaning}
 use Rattle.ec_play.specs.Orders.{line_order, orders}
 use Rattle.ec_play.specs.Texts.{open_text, text_of}
 
@@ -88,8 +88,8 @@ pub record IsHalfOpen {W : Type 0} (M : Meaning W) (Told : Type 0) (n : ℕ) (lo
   pub begun : open_text calls ≡ front ++ rest
   pub text : Appends old new (text_of logs log ++ front)
 
--- The event of the line that follows ended for want of memory: the log has its entries so far, and none of its text is
--- written.
+-- The event of the line that follows ended for want of memory: the log has the entries of its first steps, and none of its
+-- text is written.
 pub record IsBroken (Told : Type 0) (n : ℕ) (logs : Bool) (start : Net) (input : List ℕ) (old new : Option (List ℕ)) (log : List Entry) (stores : List Records) : Type 0 where
   pub front : List (List ℕ)
   pub line : List ℕ
@@ -102,6 +102,7 @@ pub record IsBroken (Told : Type 0) (n : ℕ) (logs : Bool) (start : Net) (input
   pub next : IsNext front line last
   pub parts : log ≡ earlier ++ latest
   pub before : Told → IsLogOf n start events earlier
+  pub begun : Told → IsBegun n (run earlier start) last latest
   pub cut : IsCutShort Told n start log stores
   pub text : Appends old new (text_of logs earlier)
 

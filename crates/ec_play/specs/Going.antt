@@ -20,7 +20,7 @@ use Rattle.ec_play.specs.declared.status.Status.TheVariants as status
 use Rattle.ec_play.specs.Ends.{IsCutShort, IsHalfTold}
 use Rattle.ec_play.specs.Lines.{lines}
 use Rattle.ec_world.specs.Unanswered.{AreUnanswered}
-use Rattle.ec_play.specs.Meaning.{Meaning}
+use Rattle.ec_play.specs.Meaning.{IsBegun, Meaning}
 use Rattle.ec_play.specs.Orders.{orders, with_order}
 use Rattle.ec_play.specs.Texts.{open_text, text_of}
 
@@ -42,11 +42,17 @@ pub record HalfTold {W : Type 0} (M : Meaning W) (Told : Type 0) (logs : Bool) (
   pub told : IsHalfTold logs old written (M.log s) (M.log t)
 
 -- an event ended for want of memory, and none of its text is written
-pub record Broken {W : Type 0} (M : Meaning W) (Told : Type 0) (logs : Bool) (start : Net) (old : Option (List ℕ)) (s t : W) (stores : List Records) (written : Option (List ℕ)) : Type 0 where
+pub record Broken {W : Type 0} (M : Meaning W) (Told : Type 0) (logs : Bool) (start : Net) (old : Option (List ℕ)) (event : Event) (s t : W) (stores : List Records) (written : Option (List ℕ)) : Type 0 where
   pub latest : List Entry
   pub parts : M.log t ≡ M.log s ++ latest
+  pub begun : Told → IsBegun (M.bricks s) (run (M.log s) start) event latest
   pub cut : IsCutShort Told (M.bricks s) start (M.log t) stores
   pub text : Appends old written (text_of logs (M.log s))
+
+-- but for want of memory
+abbrev pub ButForMemory : Result (Unit {0}) Stop → Type 0 → Type 0
+ButForMemory (Err stop.NoMemory) holds = Unit {0}
+ButForMemory result holds = holds
 
 -- why a line isn't obeyed, by what it orders
 abbrev pub IsBadAs : {W : Type 0} → Meaning W → W → Result (Option Event) LineFault → ScriptWhy → Type 0
@@ -62,7 +68,7 @@ Stopped M Told logs start old events said s t stores written stop.WriteFault =
     (event : Event) × (said ≡ Ok (Some event)) × HalfTold M Told logs start old events event s t stores written
 Stopped M Told logs start old events said s t stores written stop.NoMemory =
     Goes M Told logs start old events t stores written
-    ⊎ ((event : Event) × (said ≡ Ok (Some event)) × (Broken M Told logs start old s t stores written ⊎ HalfTold M Told logs start old events event s t stores written))
+    ⊎ ((event : Event) × (said ≡ Ok (Some event)) × (Broken M Told logs start old event s t stores written ⊎ HalfTold M Told logs start old events event s t stores written))
 
 -- what stands after a line that is obeyed
 pub record Obeys {W : Type 0} (M : Meaning W) (Told : Type 0) (logs : Bool) (start : Net) (old : Option (List ℕ)) (events : List Event) (said : Result (Option Event) LineFault) (t : W) (stores : List Records) (written : Option (List ℕ)) : Type 0 where

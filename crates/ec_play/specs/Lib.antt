@@ -1,4 +1,5 @@
 pub mod Lines
+pub mod Taken
 pub mod Statuses
 pub mod Texts
 pub mod Orders

@@ -34,3 +34,8 @@ abbrev pub stop_status : ℕ → Stop → Status
 stop_status line (stop.Bad why) = BadScript line why
 stop_status line stop.WriteFault = WriteFault
 stop_status line stop.NoMemory = NoMemory
+
+-- but for a run that ends for want of memory
+abbrev pub ButForMemoryIn : Status → Type 0 → Type 0
+ButForMemoryIn NoMemory holds = Unit {0}
+ButForMemoryIn how holds = holds

@@ -1,11 +1,12 @@
 // One line of a script.
 ghost use Rattle.std.specs.Prelude.{◌≡◌, ◌≤◌, ℕ, List, Option, Some, Ok, true, length, map, is_some, OnOk, IfErr, IsErrOf};
 ghost use Rattle.std.specs.List.{list_all};
+ghost use Rattle.ec_attr.specs.declared.geometry.Geometry.{Geometry};
 ghost use Rattle.ec_history.specs.Run.{Net};
 ghost use Rattle.ec_script.specs.Printed.{IsEvent};
 ghost use Rattle.ec_store.specs.Causes.{Rose};
 ghost use Rattle.ec_wire.specs.declared.event.Event.{Event as EventOf};
-ghost use Rattle.ec_play.specs.Going.{Goes, Obeys, Stopped};
+ghost use Rattle.ec_play.specs.Going.{ButForMemory, Goes, Obeys, Stopped};
 ghost use Rattle.ec_play.specs.Orders.{line_order};
 
 use crate::reader::MOST_LINES;
@@ -45,6 +46,7 @@ fn obey_event<W: Stage<B, T>, B: BrickStore, T, O: Sink>(
     ensures tells { list_all B.told stores.new ≡ list_all B.told stores.old }
     ensures bricks { W.meaning.bricks stage.new ≡ W.meaning.bricks stage.old }
     ensures keeps { OnOk result (W.meaning.keeps stage.new) }
+    ensures since { ButForMemory result ((geometry : Geometry) (first : ℕ) → W.meaning.since stage.old geometry first → W.meaning.since stage.new geometry first) }
     ensures ok { OnOk result ((start : Net) (old : Option (List ℕ)) (events : List EventOf)
         → Goes W.meaning (list_all B.told stores.old ≡ true) logs start old events stage.old (map B.records stores.old) (O.written out.old)
         → Obeys W.meaning (list_all B.told stores.old ≡ true) logs start old events (Ok (Some event.now)) stage.new (map B.records stores.new) (O.written out.new)) }
@@ -85,6 +87,7 @@ pub fn obey<W: Stage<B, T>, B: BrickStore, T, O: Sink>(
     ensures tells { list_all B.told stores.new ≡ list_all B.told stores.old }
     ensures bricks { W.meaning.bricks stage.new ≡ W.meaning.bricks stage.old }
     ensures keeps { OnOk result (W.meaning.keeps stage.new) }
+    ensures since { ButForMemory result ((geometry : Geometry) (first : ℕ) → W.meaning.since stage.old geometry first → W.meaning.since stage.new geometry first) }
     ensures ok { OnOk result ((start : Net) (old : Option (List ℕ)) (events : List EventOf)
         → Goes W.meaning (list_all B.told stores.old ≡ true) logs start old events stage.old (map B.records stores.old) (O.written out.old)
         → Obeys W.meaning (list_all B.told stores.old ≡ true) logs start old events (line_order number line.now) stage.new (map B.records stores.new) (O.written out.new)) }

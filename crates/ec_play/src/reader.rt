@@ -1,8 +1,9 @@
 // The lines of a source, in whatever pieces it gives its bytes.
-ghost use Rattle.std.specs.Prelude.{◌≡◌, ◌<◌, ◌≤◌, ℕ, [], length, drop, is_some, IfOk, OnOk, OnErr, IsErrOf, MatchBool, IsTrue, ◌↔◌, vec_len, nat_eq};
+ghost use Rattle.std.specs.Prelude.{◌≡◌, ◌<◌, ◌≤◌, ℕ, ◌+◌, [], length, drop, is_some, IfOk, OnOk, OnErr, IsErrOf, MatchBool, IsTrue, ◌↔◌, vec_len, nat_eq};
 ghost use Rattle.std.specs.List.{position_or_len};
 ghost use Rattle.std.specs.Io.KnownBytes.{Consumes, IsAtEnd, Keeps, prepend_known};
 ghost use Rattle.ec_play.specs.Lines.{HasLine, HasNoLine, TakesLine, BeginsLong};
+ghost use Rattle.ec_play.specs.Taken.{TakesAtMost};
 ghost use Rattle.ec_store.specs.Causes.{Rose};
 ghost use Rattle.ec_play.specs.declared.reader.ReadError.TheVariants.{ReadFault, NoMemory};
 
@@ -81,6 +82,7 @@ impl LineReader {
         ensures bytes { OnOk result (Consumes (S.left source.old) (S.left source.new) self.new) }
         ensures more { IfOk result (λ more. MatchBool more (0 < length self.new) ((self.new ≡ []) × IsAtEnd (S.left source.new))) }
         ensures same { OnErr result ((self.new ≡ []) × Keeps (S.left source.old) (S.left source.new)) }
+        ensures room { length self.new ≤ BUFFER }
         ensures told { is_some (S.left source.new) ≡ is_some (S.left source.old) }
         ensures later { S.faults source.old ≤ S.faults source.new }
         ensures cause { OnErr result (Rose (S.faults source.old) (S.faults source.new)) }
@@ -94,6 +96,7 @@ impl LineReader {
     /// Whether a byte is left to take.
     pub fn has_more<S: Source>(&mut self, source: &mut S) -> Result<bool, Failed>
         ensures line { IfOk result (λ more. MatchBool more (HasLine (prepend_known self.old (S.left source.old))) (HasNoLine (prepend_known self.old (S.left source.old)))) }
+        ensures read { TakesAtMost BUFFER (prepend_known self.old (S.left source.old)) (S.left source.new) }
         ensures told { is_some (S.left source.new) ≡ is_some (S.left source.old) }
         ensures later { S.faults source.old ≤ S.faults source.new }
         ensures cause { OnErr result (Rose (S.faults source.old) (S.faults source.new)) }
@@ -105,6 +108,7 @@ impl LineReader {
     fn refill<S: Source>(&mut self, source: &mut S) -> Result<bool, Failed>
         ensures same { OnOk result (Consumes (prepend_known self.old (S.left source.old)) (prepend_known self.new (S.left source.new)) []) }
         ensures more { IfOk result (λ more. MatchBool more (0 < length self.new) (IsAtEnd (prepend_known self.new (S.left source.new)))) }
+        ensures read { TakesAtMost BUFFER (prepend_known self.old (S.left source.old)) (S.left source.new) }
         ensures told { is_some (S.left source.new) ≡ is_some (S.left source.old) }
         ensures later { S.faults source.old ≤ S.faults source.new }
         ensures cause { OnErr result (Rose (S.faults source.old) (S.faults source.new)) }
@@ -117,7 +121,7 @@ impl LineReader {
     }
 
     /// Takes the next line into `line`, without its newline, and answers whether there was one. After an error no
-    /// line can be taken any more.
+    /// line can be taken any more. Past what it looks at, the source may have given a part of `BUFFER` bytes.
     pub fn next_line<S: Source>(
         &mut self,
         source: &mut S,
@@ -127,6 +131,8 @@ impl LineReader {
             (TakesLine (prepend_known self.old (S.left source.old)) (prepend_known self.new (S.left source.new)) line.new.items)
             (HasNoLine (prepend_known self.old (S.left source.old)))) }
         ensures short { OnOk result (vec_len line.new ≤ LONGEST) }
+        ensures taken { OnOk result (TakesAtMost (LONGEST + 1) (prepend_known self.old (S.left source.old)) (prepend_known self.new (S.left source.new))) }
+        ensures read { TakesAtMost (LONGEST + BUFFER) (prepend_known self.old (S.left source.old)) (S.left source.new) }
         ensures long { IsErrOf result ReadError.TooLong → BeginsLong LONGEST (prepend_known self.old (S.left source.old)) }
         ensures told { is_some (S.left source.new) ≡ is_some (S.left source.old) }
         ensures later { S.faults source.old ≤ S.faults source.new }
@@ -156,7 +162,8 @@ impl LineReader {
 
     /// Whether no byte is held.
     fn is_empty(&self) -> bool
-        ensures { IsTrue result ↔ (self.now ≡ []) }
+        ensures none { IsTrue result ↔ (self.now ≡ []) }
+        ensures room { length self.now ≤ BUFFER }
     {
         self.start == self.end
     }

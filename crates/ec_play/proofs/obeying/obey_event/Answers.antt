@@ -13,7 +13,7 @@ returns-in-Err-NoMemory-clause-err g c = λ start old events goes.
     inr (
       c.args.event.now,
       refl,
-      inl (broken g.W.Means.meaning (list_all g.B.BrickStore.told c.args.stores.now ≡ true) c.args.logs start old events c.args.stage.now c.step.new.self (map g.B.BrickStore.records c.args.stores.now) (map g.B.BrickStore.records c.step.new.stores) (g.O.Sink.written c.args.out.now) goes
+      inl (broken g.W.Means.meaning (list_all g.B.BrickStore.told c.args.stores.now ≡ true) c.args.logs start old events c.args.event.now c.args.stage.now c.step.new.self (map g.B.BrickStore.records c.args.stores.now) (map g.B.BrickStore.records c.step.new.stores) (g.O.Sink.written c.args.out.now) goes
           (rw c.in-Err-NoMemory.field-0-is at c.in-Err-NoMemory.ensures.steps)),
     )
 

@@ -4,6 +4,8 @@ use Rattle.std.proofs.lemmas.List.Folds.{length-prefix_len}
 use Rattle.std.specs.List.{position_or_len}
 use Rattle.ec_play.proofs.KnownLemmas.{consumes_front}
 use Rattle.ec_play.proofs.LineLemmas.{ends_line, begins_long, takes_line, no_newline_before}
+use Rattle.std.specs.Io.KnownBytes.{prepend_known}
+use Rattle.ec_play.proofs.TakenLemmas.{takes_ended, takes_last, takes_part}
 use Rattle.ec_play.proofs.reader.LineReader.next_line.Goals as goal
 
 pub returns-then-not-branch-clause-line : goal.returns-then-not-branch-clause-line
@@ -49,3 +51,27 @@ bytes-preserved g c =
       told = c.in_ok-refill.ensures.told ∙ c.bytes.invariant.told;
       later = omega (arith, c.bytes.invariant.later, c.in_ok-refill.ensures.later);
     }
+
+pub returns-then-not-branch-clause-read : goal.returns-then-not-branch-clause-read
+returns-then-not-branch-clause-read g c = takes_part (prepend_known c.args.self.now (g.S.Source.left c.args.source.now)) (prepend_known c.bytes.self (g.S.Source.left c.bytes.source)) (g.S.Source.left c.refill.new.source) c.bytes.line.items c.bytes.invariant.short c.bytes.invariant.taken c.refill.ensures.read
+
+pub returns-then-count-len-clause-read : goal.returns-then-count-len-clause-read
+returns-then-count-len-clause-read g c = takes_part (prepend_known c.args.self.now (g.S.Source.left c.args.source.now)) (prepend_known c.bytes.self (g.S.Source.left c.bytes.source)) (g.S.Source.left c.refill.new.source) c.bytes.line.items c.bytes.invariant.short c.bytes.invariant.taken c.refill.ensures.read
+
+pub returns-in_err-refill-clause-read : goal.returns-in_err-refill-clause-read
+returns-in_err-refill-clause-read g c = takes_part (prepend_known c.args.self.now (g.S.Source.left c.args.source.now)) (prepend_known c.bytes.self (g.S.Source.left c.bytes.source)) (g.S.Source.left c.refill.new.source) c.bytes.line.items c.bytes.invariant.short c.bytes.invariant.taken c.refill.ensures.read
+
+pub returns-in_err-extend_from_slice-clause-read : goal.returns-in_err-extend_from_slice-clause-read
+returns-in_err-extend_from_slice-clause-read g c = takes_part (prepend_known c.args.self.now (g.S.Source.left c.args.source.now)) (prepend_known c.bytes.self (g.S.Source.left c.bytes.source)) (g.S.Source.left c.refill.new.source) c.bytes.line.items c.bytes.invariant.short c.bytes.invariant.taken c.refill.ensures.read
+
+pub returns-then-ended-clause-read : goal.returns-then-ended-clause-read
+returns-then-ended-clause-read g c = takes_part (prepend_known c.args.self.now (g.S.Source.left c.args.source.now)) (prepend_known c.bytes.self (g.S.Source.left c.bytes.source)) (g.S.Source.left c.refill.new.source) c.bytes.line.items c.bytes.invariant.short c.bytes.invariant.taken c.refill.ensures.read
+
+pub returns-then-not-branch-clause-taken : goal.returns-then-not-branch-clause-taken
+returns-then-not-branch-clause-taken g c =
+    takes_last (prepend_known c.args.self.now (g.S.Source.left c.args.source.now)) (prepend_known c.bytes.self (g.S.Source.left c.bytes.source)) (prepend_known c.refill.new.self (g.S.Source.left c.refill.new.source)) c.bytes.line.items c.bytes.invariant.short c.bytes.invariant.taken c.in_ok-refill.ensures.same
+
+pub returns-then-ended-clause-taken : goal.returns-then-ended-clause-taken
+returns-then-ended-clause-taken g c =
+    rw c.take.ensures
+    (takes_ended (prepend_known c.args.self.now (g.S.Source.left c.args.source.now)) (prepend_known c.bytes.self (g.S.Source.left c.bytes.source)) (g.S.Source.left c.refill.new.source) c.bytes.line.items c.refill.new.self c.place_of-count.result (omega (arith, c.if-count-len.false, c.len.ensures, c.bytes.line.ok.0, c.bytes.invariant.short)) c.bytes.invariant.taken c.in_ok-refill.ensures.same)

@@ -1,5 +1,7 @@
 -- What a run says of its volume file, told or not.
-use Rattle.std.proofs.Common.{◌≡◌, ◌≢◌, ◌<◌, ◌^◌, ℕ, ◌+◌, ◌++◌, ◌⊎◌, inl, inr, List, Option, Some, None, length, refl, sym, ap, subst, ◌∙◌, append-nil, length-append, arith}
+use Rattle.std.proofs.Common.{◌≡◌, ◌≢◌, ◌<◌, ◌≤◌, ◌^◌, ℕ, ◌+◌, ◌++◌, ◌⊎◌, inl, inr, Bool, true, false, cond, ◌==◌, nat_lt, Less, Equal, Greater, List, Option, Some, None, length, refl, sym, ap, subst, ◌∙◌, append-nil, length-append, arith}
+use Rattle.std.proofs.lemmas.Bool.Decides.{nat_tests}
+use Rattle.std.specs.Ordering.{is_lt, nat_cmp, ord_min}
 use Rattle.std.specs.Prelude.{IfSome}
 use Rattle.std.specs.Io.KnownBytes.{Consumes, IsAtEnd}
 use Rattle.ec_volfile.specs.declared.fault.VolumeFault.{VolumeFault}
@@ -84,3 +86,12 @@ pub told_both : (left input : Option (List ℕ)) (P R : List ℕ → Type 0) (Q 
 told_both None input P R Q h k make = tt
 told_both (Some file) None P R Q h k make = tt
 told_both (Some file) (Some xs) P R Q h k make = make file xs h k
+
+-- the lesser of two numbers is at most the first
+pub least : (a b : ℕ) → ord_min nat_cmp a b ≤ a
+least a b = at (nat_lt b a) (b == a) refl
+  where
+    at : (t u : Bool) → nat_lt b a ≡ t → cond (is_lt (cond t Less (cond u Equal Greater))) b a ≤ a
+    at true u e = grind (arith, nat_tests)
+    at false true e = omega arith
+    at false false e = omega arith

@@ -1,4 +1,5 @@
-pub mod Order
 pub mod VolumeText
+pub mod Versions
 pub mod Starts
+pub mod Reports
 pub mod Run

@@ -1,10 +1,13 @@
 // A script that is played on a world.
 ghost use Rattle.std.specs.Prelude.{◌≡◌, ℕ, IfSome, [], false, length, map, true};
 ghost use Rattle.std.specs.List.{list_all};
+ghost use Rattle.ec_attr.specs.declared.geometry.Geometry.{Geometry};
 ghost use Rattle.ec_brick.specs.State.{State};
 ghost use Rattle.ec_history.specs.Run.{fresh};
 ghost use Rattle.ec_play.specs.Ends.{Ends};
-ghost use Rattle.ec_play.specs.Statuses.{is_refusal};
+ghost use Rattle.ec_play.specs.Statuses.{ButForMemoryIn, is_refusal};
+ghost use Rattle.ec_play.specs.Taken.{TakesAtMost, most_of_script};
+ghost use Rattle.ec_run.specs.Versions.{IsLogSince};
 ghost use Rattle.ec_store.specs.Causes.{Rose};
 
 use ec_bank::RowTimes;
@@ -38,6 +41,13 @@ pub fn play_world<S: Source, O: Sink, B: BrickStore, T: RowTimes>(
         → IfSome (S.left script.old) (λ input.
         Ends (⟦<World as Means>⟧.meaning) (list_all B.told stores.old ≡ true) (length stores.old) logs (fresh bricks)
         result input (O.written out.old) (O.written out.new) log.new (map B.records stores.new)) }
+
+    // But for want of memory, the log is that of a world which was begun as this one.
+    ensures since { ButForMemoryIn result ((geometry : Geometry) (first : ℕ) → (⟦<World as Means>⟧.meaning).since world geometry first
+        → IsLogSince (⟦<World as Means>⟧.meaning) geometry first log.new) }
+
+    // No more is taken of the script than a line more than it may have.
+    ensures taken { TakesAtMost most_of_script (S.left script.old) (S.left script.new) }
 
     // A fault of the source or the sink.
     ensures read { result ≡ Status.ReadFault → Rose (S.faults script.old) (S.faults script.new) }

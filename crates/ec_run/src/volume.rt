@@ -3,8 +3,9 @@ ghost use Rattle.std.specs.Prelude.{◌≡◌, ◌≢◌, ◌⊎◌, ◌≤◌, 
 ghost use Rattle.ec_volfile.specs.Faults.{IsFirstFaultOrNoMemory};
 ghost use Rattle.ec_volfile.specs.Grammar.{IsVolumeFile};
 ghost use Rattle.ec_volfile.specs.Outline.{outline};
+ghost use Rattle.ec_play.specs.Taken.{TakesAtMost};
 ghost use Rattle.ec_store.specs.Causes.{Rose};
-ghost use Rattle.ec_run.specs.VolumeText.{IsTextOf, IsRefusedFor};
+ghost use Rattle.ec_run.specs.VolumeText.{IsTextOf, IsRefusedFor, most_of_volume};
 ghost use Rattle.ec_run.specs.declared.volume.VolumeError.TheVariants.{ReadFault, NoMemory};
 
 use ec_store::{Failed, Source};
@@ -33,6 +34,7 @@ pub enum VolumeError {
 pub fn volume_of<V: Source>(alloc: Global, source: &mut V) -> Result<Volume, VolumeError>
     ensures found { IfSome (V.left source.old) (λ text. IfOk result (λ v. IsVolumeFile text (outline v))) }
     ensures refused { IfSome (V.left source.old) (λ text. IfErr result (IsRefusedFor text)) }
+    ensures taken { TakesAtMost most_of_volume (V.left source.old) (V.left source.new) }
     ensures later { V.faults source.old ≤ V.faults source.new }
     ensures cause { IsErrOf result VolumeError.ReadFault → Rose (V.faults source.old) (V.faults source.new) }
 {
@@ -61,6 +63,7 @@ fn read_text<V: Source>(source: &mut V, bytes: &mut Vec<u8>) -> Result<(), Volum
     requires empty { bytes.old.items ≡ [] }
     ensures unread { IfErr result (λ e. e ≡ VolumeError.ReadFault ⊎ e ≡ VolumeError.NoMemory) }
     ensures text { OnOk result (IsTextOf (V.left source.old) bytes.new.items) }
+    ensures taken { TakesAtMost most_of_volume (V.left source.old) (V.left source.new) }
     ensures later { V.faults source.old ≤ V.faults source.new }
     ensures cause { IsErrOf result VolumeError.ReadFault → Rose (V.faults source.old) (V.faults source.new) }
 {

@@ -1,7 +1,10 @@
 use Rattle.std.proofs.Common.{◌≡◌, ◌∙◌, ◌++◌, drop, length, map, refl, sym, take, true, vec_len}
 use Rattle.std.proofs.KnownBytes.{Keeps-refl}
 use Rattle.std.specs.List.{list_all}
-use Rattle.ec_run.proofs.EndsLemmas.{run_counted, run_played, written_back}
+use Rattle.ec_play.proofs.TakenLemmas.{takes_none}
+use Rattle.ec_play.specs.Taken.{most_of_script}
+use Rattle.ec_run.specs.VolumeText.{most_of_volume}
+use Rattle.ec_run.proofs.EndsLemmas.{run_counted, run_ordered, written_back}
 use Rattle.ec_run.proofs.top.run.Goals as goal
 
 pub returns-then-len-from-clause-run : goal.returns-then-len-from-clause-run
@@ -13,8 +16,32 @@ returns-then-len-from-clause-run g c =
 
 pub returns-clause-run : goal.returns-clause-run
 returns-clause-run g c =
-    let long : length c.start_and_play.new.stores ≡ vec_len c.args.bricks.now = c.start_and_play.auto.stores ∙ c.as_mut_slice.ensures.len in
-    let after = take (vec_len c.args.bricks.now) (c.start_and_play.new.stores ++ drop (length c.start_and_play.new.stores) c.args.bricks.now.items) in
-    let back : after ≡ c.start_and_play.new.stores = written_back c.start_and_play.new.stores (drop (length c.start_and_play.new.stores) c.args.bricks.now.items) (vec_len c.args.bricks.now) long in
-    run_played _ (list_all g.B.BrickStore.told c.args.bricks.now.items ≡ true) (map (λ w. w.now) c.args.words.now) c.in-Ok.logs c.in-Ok-volume_of.volume (vec_len c.args.bricks.now) (map g.B.BrickStore.records c.args.bricks.now.items) (map g.B.BrickStore.records after) (g.V.Source.left c.args.vol.now) (g.S.Source.left c.args.script.now) c.start_and_play.result (g.O.Sink.written c.args.out.now) (g.O.Sink.written c.start_and_play.new.out) c.start_and_play.new.log
-    c.in-Ok.ensures.order (sym c.len.ensures ∙ (c.if-len-from.false ∙ c.from.ensures)) c.in-Ok-volume_of.ensures.found (rw back (rw c.as_mut_slice.ensures.value at c.start_and_play.ensures.ends))
+    let long : length c.start_and_obey.new.stores ≡ vec_len c.args.bricks.now = c.start_and_obey.auto.stores ∙ c.as_mut_slice.ensures.len in
+    let after = take (vec_len c.args.bricks.now) (c.start_and_obey.new.stores ++ drop (length c.start_and_obey.new.stores) c.args.bricks.now.items) in
+    let back : after ≡ c.start_and_obey.new.stores = written_back c.start_and_obey.new.stores (drop (length c.start_and_obey.new.stores) c.args.bricks.now.items) (vec_len c.args.bricks.now) long in
+    run_ordered _ (list_all g.B.BrickStore.told c.args.bricks.now.items ≡ true) (map (λ w. w.now) c.args.words.now) (vec_len c.args.bricks.now) (map g.B.BrickStore.records c.args.bricks.now.items) (map g.B.BrickStore.records after) c.in-Ok.command c.in-Ok-volume_of.volume (g.V.Source.left c.args.vol.now) (g.S.Source.left c.args.script.now) c.start_and_obey.result (g.O.Sink.written c.args.out.now) (g.O.Sink.written c.start_and_obey.new.out) c.start_and_obey.new.log
+    c.in-Ok.ensures.order (sym c.len.ensures ∙ (c.if-len-from.false ∙ c.from.ensures)) c.start_and_obey.ensures.started c.in-Ok-volume_of.ensures.found (rw back (rw c.as_mut_slice.ensures.value at c.start_and_obey.ensures.ends))
+
+pub returns-in-Err-Bad-clause-volume_taken : goal.returns-in-Err-Bad-clause-volume_taken
+returns-in-Err-Bad-clause-volume_taken g c = takes_none most_of_volume (g.V.Source.left c.args.vol.now) (g.V.Source.left c.args.vol.now) (Keeps-refl (g.V.Source.left c.args.vol.now))
+
+pub returns-in-Err-NoMemory-clause-volume_taken : goal.returns-in-Err-NoMemory-clause-volume_taken
+returns-in-Err-NoMemory-clause-volume_taken g c = takes_none most_of_volume (g.V.Source.left c.args.vol.now) (g.V.Source.left c.args.vol.now) (Keeps-refl (g.V.Source.left c.args.vol.now))
+
+pub returns-in-Err-Bad-clause-script_taken : goal.returns-in-Err-Bad-clause-script_taken
+returns-in-Err-Bad-clause-script_taken g c = takes_none most_of_script (g.S.Source.left c.args.script.now) (g.S.Source.left c.args.script.now) (Keeps-refl (g.S.Source.left c.args.script.now))
+
+pub returns-in-Err-NoMemory-clause-script_taken : goal.returns-in-Err-NoMemory-clause-script_taken
+returns-in-Err-NoMemory-clause-script_taken g c = takes_none most_of_script (g.S.Source.left c.args.script.now) (g.S.Source.left c.args.script.now) (Keeps-refl (g.S.Source.left c.args.script.now))
+
+pub returns-in-Err-ReadFault-clause-script_taken : goal.returns-in-Err-ReadFault-clause-script_taken
+returns-in-Err-ReadFault-clause-script_taken g c = takes_none most_of_script (g.S.Source.left c.args.script.now) (g.S.Source.left c.args.script.now) (Keeps-refl (g.S.Source.left c.args.script.now))
+
+pub returns-in-Err-Refused-clause-script_taken : goal.returns-in-Err-Refused-clause-script_taken
+returns-in-Err-Refused-clause-script_taken g c = takes_none most_of_script (g.S.Source.left c.args.script.now) (g.S.Source.left c.args.script.now) (Keeps-refl (g.S.Source.left c.args.script.now))
+
+pub returns-in-Err-NoMemory-volume_of-clause-script_taken : goal.returns-in-Err-NoMemory-volume_of-clause-script_taken
+returns-in-Err-NoMemory-volume_of-clause-script_taken g c = takes_none most_of_script (g.S.Source.left c.args.script.now) (g.S.Source.left c.args.script.now) (Keeps-refl (g.S.Source.left c.args.script.now))
+
+pub returns-then-len-from-clause-script_taken : goal.returns-then-len-from-clause-script_taken
+returns-then-len-from-clause-script_taken g c = takes_none most_of_script (g.S.Source.left c.args.script.now) (g.S.Source.left c.args.script.now) (Keeps-refl (g.S.Source.left c.args.script.now))

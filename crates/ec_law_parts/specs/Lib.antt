@@ -1,0 +1,3 @@
+pub mod LeavesOff
+pub mod Laws
+pub mod Names

@@ -1,6 +1,7 @@
 // Heads and children that bricks answer.
 use ec_attr::{Attr, Child, Config, Dirty, Geometry, Gfid, Head, Kind, Version};
 
+/// The head of an empty record of this kind at version 7, clean.
 pub fn head(geometry: Geometry, kind: Kind) -> Head {
     Head {
         kind,
@@ -18,6 +19,7 @@ pub fn head(geometry: Geometry, kind: Kind) -> Head {
     }
 }
 
+/// A file of this gfid, as a name leads to it.
 pub fn file(gfid: u128) -> Option<Child> {
     Some(Child {
         kind: Kind::File,

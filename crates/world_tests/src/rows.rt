@@ -6,6 +6,7 @@ ghost use Rattle.ec_field.specs.Code.{combined_element};
 use ec_bank::{Bank, Multiply, RowTimes, times_plain};
 use ec_field::Chunk;
 
+/// Multiplies rows by chunks one element after another, by the product of the field.
 pub struct PlainRows;
 
 impl RowTimes for PlainRows {

@@ -1,0 +1,10 @@
+pub mod Windowed
+pub mod Refusing
+pub mod Answering
+pub mod Sinking
+pub mod Changing
+pub mod Wrote
+pub mod Watching
+pub mod Guarding
+pub mod Writing
+pub mod Owing

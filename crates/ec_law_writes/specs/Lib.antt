@@ -1,0 +1,5 @@
+pub mod Guarding
+pub mod Writing
+pub mod Sinks
+pub mod Owing
+pub mod Laws

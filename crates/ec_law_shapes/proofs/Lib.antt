@@ -1,0 +1,14 @@
+pub mod Quiet
+pub mod Replying
+pub mod Grouping
+pub mod Facts
+pub mod Records
+pub mod Asking
+pub mod Owing
+pub mod Moving
+pub mod Telling
+pub mod Executing
+pub mod Steps
+pub mod Shadowing
+pub mod Beside
+pub mod Logs

@@ -1,0 +1,15 @@
+pub mod Steady
+pub mod Agreeing
+pub mod Extending
+pub mod Fitting
+pub mod Having
+pub mod Planned
+pub mod Windows
+pub mod Owing
+pub mod Histories
+pub mod Entries
+pub mod Saying
+pub mod Named
+pub mod Fronts
+pub mod Shaping
+pub mod Worlds

@@ -1,0 +1,17 @@
+pub mod Sent
+pub mod Stages
+pub mod Coded
+pub mod Quiet
+pub mod Writes
+pub mod Truncates
+pub mod Entries
+pub mod Worlds
+pub mod Sizes
+pub mod Planning
+pub mod Coding
+pub mod Changing
+pub mod Plans
+pub mod Filing
+pub mod Having
+pub mod Choosing
+pub mod FilingLaws

@@ -1,0 +1,4 @@
+pub mod Stripes
+pub mod Laws
+pub mod Plans
+pub mod Filing

@@ -1,0 +1,14 @@
+pub mod Rows
+pub mod Bytes
+pub mod Stripes
+pub mod Staying
+pub mod Fences
+pub mod Leading
+pub mod Giving
+pub mod Timing
+pub mod Answered
+pub mod Knowing
+pub mod Reading
+pub mod Olds
+pub mod Laws
+pub mod Fronts

@@ -1,0 +1,5 @@
+pub mod Units
+pub mod Given
+pub mod Rows
+pub mod Stripes
+pub mod Laws

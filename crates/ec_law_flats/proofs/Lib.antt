@@ -1,0 +1,15 @@
+pub mod PostKinds
+pub mod Posting
+pub mod MachineSteps
+pub mod Calls
+pub mod Planning
+pub mod NameTelling
+pub mod PlanRuns
+pub mod NameRuns
+pub mod NameLaws
+pub mod StripeTelling
+pub mod StripeSteps
+pub mod StripeRuns
+pub mod StripeFlats
+pub mod LowStripes
+pub mod BuiltLogs

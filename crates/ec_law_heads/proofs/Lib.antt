@@ -1,0 +1,12 @@
+pub mod Changing
+pub mod Walking
+pub mod Bounds
+pub mod Volumes
+pub mod Making
+pub mod Blank
+pub mod Agreeing
+pub mod Logs
+pub mod Calling
+pub mod OneKind
+pub mod Restarting
+pub mod Worlds

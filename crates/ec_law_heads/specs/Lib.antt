@@ -1,0 +1,5 @@
+pub mod Heads
+pub mod Laws
+pub mod Making
+pub mod Restart
+pub mod Worlds

@@ -14,6 +14,6 @@ pub mod Permitting
 pub mod Reporting
 pub mod Settled
 pub mod InNet
-pub mod Versions
+pub mod Consistency
 pub mod Waiting
 pub mod Whole

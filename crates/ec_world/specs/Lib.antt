@@ -7,6 +7,6 @@ pub mod Settling
 pub mod Steps
 pub mod Unanswered
 pub mod UnderWay
-pub mod Versions
+pub mod Consistency
 pub mod Whole
 pub mod World

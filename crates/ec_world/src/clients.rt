@@ -60,7 +60,8 @@ fn are_spent<C>(clients: &Clients<C>) -> bool
     clients.calls() >= LAST_CALL
 }
 
-/// A client calls. Where the numbers of calls are used up it ends as want of memory. `wrong` is the brick with which the bricks that the call names are refused.
+/// A client calls. Where the numbers of calls are used up it ends as want of memory. `wrong` is the brick with which the bricks
+/// that the call names are refused.
 pub fn call<T, C: Begins<T>>(
     clients: &mut Clients<C>,
     cluster: &mut Cluster,

@@ -33,4 +33,4 @@ pub use refused::Refused;
 pub use settling::{Stuck, settle, until};
 pub use tearing::tear;
 pub use via::bad_via;
-pub use world::{World, version_laws};
+pub use world::{World, consistency_laws};

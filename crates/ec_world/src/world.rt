@@ -14,7 +14,7 @@ ghost use Rattle.ec_history.specs.Run.{fresh, run};
 ghost use Rattle.ec_history.specs.Starts.{IsStart};
 ghost use Rattle.ec_store.specs.Records.{Records};
 ghost use Rattle.ec_world.specs.Unanswered.{AreUnanswered};
-ghost use Rattle.ec_world.specs.Versions.{ButForMemory, HasVersions, IsFrom, VersionLaws};
+ghost use Rattle.ec_world.specs.Consistency.{ButForMemory, IsConsistent, BeganWith, ConsistencyLaws};
 ghost use Rattle.ec_world.specs.Whole.{IsAs, IsOpen, IsUnbuilt, StaysOpen, Steps, config_of, options_of};
 ghost use Rattle.ec_world.specs.World.{FitsEvent};
 
@@ -29,7 +29,11 @@ use ec_clients::{Clients, Options, new_clients, set_next_gfid};
 use ec_cluster::Cluster;
 use ec_law_answers::answer_laws;
 use ec_law_calls::world_laws;
+use ec_law_causes::world_cause_laws;
 use ec_law_commits::commit_laws;
+use ec_law_heads::world_head_laws;
+use ec_law_names::world_name_laws;
+use ec_law_parts::world_flat_laws;
 use ec_store::BrickStore;
 use ec_txn::Conduct;
 use ec_volfile::Volume;
@@ -55,14 +59,19 @@ fn config_of(volume: &Volume) -> Config
     }
 }
 
-/// After the log of every world that began with bricks that stand the laws of versions hold, and what is answered as done is
-/// committed, by one entry between its call and its answer. It does nothing when it runs.
-pub fn version_laws()
-    ensures { VersionLaws (⟦<AnyCall as Conduct>⟧.stands) (tabled (⟦<AnyCall as Conduct>⟧.begins) (⟦<AnyCall as Conduct>⟧.goes)) }
+/// After the log of every world that began with bricks that stand for a tree, versions, commits and answers are consistent at each
+/// moment: what is answered as done is committed, by one entry between its call and its answer, K records that agree have the
+/// version of the flat file, and records at that version hold each closed name of a directory. It does nothing when it runs.
+pub fn consistency_laws()
+    ensures { ConsistencyLaws (⟦<AnyCall as Conduct>⟧.stands) (tabled (⟦<AnyCall as Conduct>⟧.begins) (⟦<AnyCall as Conduct>⟧.goes)) }
 {
     world_laws();
     answer_laws();
     commit_laws();
+    world_flat_laws();
+    world_head_laws();
+    world_name_laws();
+    world_cause_laws();
 }
 
 /// With what the calls of a volume are begun.
@@ -101,7 +110,7 @@ impl World {
         ensures open { IfOk result (IsOpen (⟦<AnyCall as Conduct>⟧.stands) (tabled (⟦<AnyCall as Conduct>⟧.begins) (⟦<AnyCall as Conduct>⟧.goes))) }
         ensures bricks { IfOk result (λ w. w.bricks ≡ length stores.old) }
         ensures empty { IfOk result (λ w. IsEmpty w.cluster) }
-        ensures from { IfOk result (λ w. IsFrom (⟦<AnyCall as Conduct>⟧.stands) (tabled (⟦<AnyCall as Conduct>⟧.begins) (⟦<AnyCall as Conduct>⟧.goes)) w volume.now.geometry w.clients.next_gfid) }
+        ensures from { IfOk result (λ w. BeganWith (⟦<AnyCall as Conduct>⟧.stands) (tabled (⟦<AnyCall as Conduct>⟧.begins) (⟦<AnyCall as Conduct>⟧.goes)) w volume.now.geometry w.clients.next_gfid) }
         ensures options { IfOk result (λ w. w.clients.options ≡ options_of volume.now) }
         ensures stands { IfOk result (λ w. list_all S.told stores.old ≡ true → IsAs (⟦<AnyCall as Conduct>⟧.stands) (tabled (⟦<AnyCall as Conduct>⟧.begins) (⟦<AnyCall as Conduct>⟧.goes)) w (map S.records stores.new) (fresh (opened (config_of volume.now) (map S.records stores.new)))) }
 
@@ -159,14 +168,16 @@ impl World {
         ensures steps { Steps (⟦<AnyCall as Conduct>⟧.stands) (tabled (⟦<AnyCall as Conduct>⟧.begins) (⟦<AnyCall as Conduct>⟧.goes)) (list_all S.told stores.old ≡ true) event.now self.old self.new (map S.records stores.old) (map S.records stores.new) result }
         ensures open { StaysOpen (⟦<AnyCall as Conduct>⟧.stands) (tabled (⟦<AnyCall as Conduct>⟧.begins) (⟦<AnyCall as Conduct>⟧.goes)) self.new result }
 
-        // What it was begun with, and the laws of versions: no two attempts have the same one, a commit's is above those of all
-        // bricks outside it, and what is answered as done is committed.
-        ensures from { (geometry : Geometry) (first : ℕ) → IsFrom (⟦<AnyCall as Conduct>⟧.stands) (tabled (⟦<AnyCall as Conduct>⟧.begins) (⟦<AnyCall as Conduct>⟧.goes)) self.old geometry first → ButForMemory result (IsFrom (⟦<AnyCall as Conduct>⟧.stands) (tabled (⟦<AnyCall as Conduct>⟧.begins) (⟦<AnyCall as Conduct>⟧.goes)) self.new geometry first) }
-        ensures versions { (config : Config) (records : ℕ → Records) (bricks : ℕ → State) (tree : Tree) (next : ℕ)
-            → IsStart config records bricks tree next → IsFrom (⟦<AnyCall as Conduct>⟧.stands) (tabled (⟦<AnyCall as Conduct>⟧.begins) (⟦<AnyCall as Conduct>⟧.goes)) self.old config.geometry next
-            → IsRun config.geometry.n (log_of self.new.cluster) (fresh bricks) → ButForMemory result (HasVersions config records bricks tree next (log_of self.new.cluster)) }
+        // What it was begun with, and that all is consistent: no two attempts have the same version, a commit's is above those of
+        // all bricks outside it, K records that agree have that of the flat file and records at it hold its closed names, and what
+        // is answered as done is committed.
+        ensures from { (geometry : Geometry) (first : ℕ) → BeganWith (⟦<AnyCall as Conduct>⟧.stands) (tabled (⟦<AnyCall as Conduct>⟧.begins) (⟦<AnyCall as Conduct>⟧.goes)) self.old geometry first → ButForMemory result (BeganWith (⟦<AnyCall as Conduct>⟧.stands) (tabled (⟦<AnyCall as Conduct>⟧.begins) (⟦<AnyCall as Conduct>⟧.goes)) self.new geometry first) }
+        ensures consistent { (config : Config) (records : ℕ → Records) (bricks : ℕ → State) (tree : Tree) (next : ℕ)
+            → IsStart config records bricks tree next → BeganWith (⟦<AnyCall as Conduct>⟧.stands) (tabled (⟦<AnyCall as Conduct>⟧.begins) (⟦<AnyCall as Conduct>⟧.goes)) self.old config.geometry next
+            → IsRun config.geometry.n (log_of self.new.cluster) (fresh bricks)
+            → ButForMemory result (IsConsistent config records bricks tree next (log_of self.new.cluster)) }
     {
-        version_laws();
+        consistency_laws();
         if is_unbuilt(event) {
             return Err(Refused::Unbuilt);
         }

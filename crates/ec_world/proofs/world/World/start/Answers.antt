@@ -11,7 +11,7 @@ use Rattle.ec_history.specs.Run.{fresh}
 use Rattle.ec_store.specs.Records.{Records}
 use Rattle.ec_world.proofs.Whole.{begun_as, begun_world}
 use Rattle.ec_world.specs.Whole.{config_of, options_of}
-use Rattle.ec_world.proofs.Versions.{from_beginning}
+use Rattle.ec_world.proofs.Consistency.{from_beginning}
 use Rattle.ec_world.proofs.world.World.start.Goals as goal
 
 pub returns-in-Ok-open-clause-open : goal.returns-in-Ok-open-clause-open

@@ -1,7 +1,7 @@
 use Rattle.std.proofs.Common.{inl, inr, map, refl, sym, true, ◌∙◌, ◌≡◌}
 use Rattle.std.specs.List.{list_all}
 use Rattle.ec_world.proofs.Whole.{sees_some, stays_open}
-use Rattle.ec_world.proofs.Versions.{stays_from, versions_after}
+use Rattle.ec_world.proofs.Consistency.{stays_from, consistent_after}
 use Rattle.ec_world.proofs.world.World.step.Goals as goal
 
 pub returns-then-is_unbuilt-clause-steps : goal.returns-then-is_unbuilt-clause-steps
@@ -33,12 +33,12 @@ returns-clause-from g c = λ geometry first from.
     stays_from _ _ c.args.self.now (record c.args.self.now { clients = c.obey.new.clients; cluster = c.obey.new.cluster }) geometry first from (list_all g.S.BrickStore.told c.args.stores.now ≡ true) c.args.event.now (map g.S.BrickStore.records c.args.stores.now) (map g.S.BrickStore.records c.obey.new.stores) c.obey.result
     (inr (c.if-is_unbuilt.ensures.not refl, c.obey.ensures.outcome))
 
-pub returns-clause-versions : goal.returns-clause-versions
-returns-clause-versions g c = λ config records bricks tree next start from runs.
-    versions_after _ _ c.version_laws.ensures config records bricks tree next (record c.args.self.now { clients = c.obey.new.clients; cluster = c.obey.new.cluster }) c.obey.result start
+pub returns-clause-consistent : goal.returns-clause-consistent
+returns-clause-consistent g c = λ config records bricks tree next start from runs.
+    consistent_after _ _ c.consistency_laws.ensures config records bricks tree next (record c.args.self.now { clients = c.obey.new.clients; cluster = c.obey.new.cluster }) c.obey.result start
     (stays_from _ _ c.args.self.now (record c.args.self.now { clients = c.obey.new.clients; cluster = c.obey.new.cluster }) config.geometry next from (list_all g.S.BrickStore.told c.args.stores.now ≡ true) c.args.event.now (map g.S.BrickStore.records c.args.stores.now) (map g.S.BrickStore.records c.obey.new.stores) c.obey.result
     (inr (c.if-is_unbuilt.ensures.not refl, c.obey.ensures.outcome))) runs
 
-pub returns-then-is_unbuilt-clause-versions : goal.returns-then-is_unbuilt-clause-versions
-returns-then-is_unbuilt-clause-versions g c = λ config records bricks tree next start from runs.
-    c.version_laws.ensures config records bricks tree next c.args.self.now start from runs
+pub returns-then-is_unbuilt-clause-consistent : goal.returns-then-is_unbuilt-clause-consistent
+returns-then-is_unbuilt-clause-consistent g c = λ config records bricks tree next start from runs.
+    c.consistency_laws.ensures config records bricks tree next c.args.self.now start from runs

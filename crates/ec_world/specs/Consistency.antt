@@ -1,5 +1,5 @@
--- What a world was begun with, and what that says of the versions of records after its log.
-use Rattle.std.specs.Prelude.{◌≡◌, ℕ, List, ◌++◌, Result, Ok, Err}
+-- What a world was begun with, and what that says of its bricks and answers at each moment of its log.
+use Rattle.std.specs.Prelude.{◌≡◌, ℕ, List, ◌∷◌, ◌++◌, Result, Ok, Err}
 use Rattle.ec_attr.specs.declared.config.Config.{Config}
 use Rattle.ec_attr.specs.declared.geometry.Geometry.{Geometry}
 use Rattle.ec_brick.specs.State.{State}
@@ -15,14 +15,20 @@ use Rattle.ec_history.specs.IsRun.{IsRun}
 use Rattle.ec_history.specs.Run.{fresh}
 use Rattle.ec_history.specs.Starts.{IsStart}
 use Rattle.ec_law_answers.specs.Answered.{CommitsBetween, IsAnswered, SaysChanged, until}
+use Rattle.ec_law_causes.specs.Laws.{HasCauseInLog}
 use Rattle.ec_law_commits.specs.Commits.{CommitsOnce}
+use Rattle.ec_law_heads.specs.Heads.{HeadsStand}
+use Rattle.ec_law_heads.specs.Worlds.{HoldsInVolume}
+use Rattle.ec_law_names.specs.Laws.{HoldsNames}
 use Rattle.ec_law_net.specs.Start.{first_view}
 use Rattle.ec_law_net.specs.Turns.{view}
+use Rattle.ec_law_parts.specs.Laws.{AgreesAtFlatFile}
 use Rattle.ec_law_quorum.specs.Laws.{AboveOthers, NoTwoAlike}
 use Rattle.ec_store.specs.Records.{Records}
 use Rattle.ec_txn.specs.declared.ctx.Ctx.{Ctx}
 use Rattle.ec_wire.specs.declared.answer.Answer.{Answer}
 use Rattle.ec_wire.specs.declared.entry.Entry.{Entry}
+use Rattle.ec_wire.specs.declared.entry.Entry.TheVariants.{Answered}
 use Rattle.ec_wire.specs.declared.op.Op.{Op}
 use Rattle.ec_world.specs.declared.refused.Refused.{Refused}
 use Rattle.ec_world.specs.declared.refused.Refused.TheVariants.{NoMemory}
@@ -30,7 +36,7 @@ use Rattle.ec_world.specs.declared.world.World.{World}
 
 -- The world began with this geometry and with `first` as the next gfid: its clients are as its log says from there on,
 -- whatever the bricks and the tree were.
-pub record IsFrom (stands : Ctx → Given → AnyCall → List Own → Type 0) (by_table : Ctx → Given → List Own → Type 0) (w : World) (geometry : Geometry) (first : ℕ) : Type 0 where
+pub record BeganWith (stands : Ctx → Given → AnyCall → List Own → Type 0) (by_table : Ctx → Given → List Own → Type 0) (w : World) (geometry : Geometry) (first : ℕ) : Type 0 where
   pub coded : w.clients.options.geometry ≡ geometry
   pub sees : (bricks : ℕ → State) (tree : Tree) → Sees stands by_table w.cluster w.clients (come geometry (log_of w.cluster) (beginning bricks tree first))
 
@@ -42,19 +48,24 @@ ButForMemory result holds = holds
 -- At each moment of the log, seen from any gfid, that of a file or directory made in the log too: no two attempts to commit
 -- have the same version; as one commits its version is above that of every record at a brick that didn't do its PostOp; and a
 -- call that was answered that it changed something has committed by then, after it was made, and by one entry alone, at which
--- the flat file becomes what the call makes of it. An attempt is a turn of which a brick did a PostOp; `call` and `call_of`
+-- the flat file becomes what the call makes of it; K records without a mark that agree have the flat file's version, the heads of
+-- all stand for it, and those at its version hold each closed name of a directory, where each chunk that was sent has 512 bytes; and each call that was answered has the cause of its answer in what it sent and heard. An attempt is a turn of which a brick did a PostOp; `call` and `call_of`
 -- number those before the log.
-pub record HasVersions (config : Config) (records : ℕ → Records) (bricks : ℕ → State) (tree : Tree) (next : ℕ) (log : List Entry) : Type 0 where
+pub record IsConsistent (config : Config) (records : ℕ → Records) (bricks : ℕ → State) (tree : Tree) (next : ℕ) (log : List Entry) : Type 0 where
   pub no_two_alike : (g : ℕ) (call : ℕ → ℕ) (es rest : List Entry) → log ≡ es ++ rest → NoTwoAlike config.geometry.n (quorum config.geometry) (view g es (fresh bricks) (first_view config.geometry.n (tree g).version records g call next)).core
   pub above_others : (g : ℕ) (call : ℕ → ℕ) (es rest : List Entry) → log ≡ es ++ rest → AboveOthers config.geometry.n (quorum config.geometry) (view g es (fresh bricks) (first_view config.geometry.n (tree g).version records g call next)).core
   pub answered_after_commit : (g : ℕ) (call_of : ℕ → ℕ) (es rest : List Entry) → log ≡ es ++ rest → (call : ℕ) (op : Op) (answer : Answer) (h : IsAnswered es call op answer) → SaysChanged op answer g
       → CommitsBetween config.geometry.n (quorum config.geometry) (view g h.earlier (fresh bricks) (first_view config.geometry.n (tree g).version records g call_of next)) (view g (until h) (fresh bricks) (first_view config.geometry.n (tree g).version records g call_of next)) (view g es (fresh bricks) (first_view config.geometry.n (tree g).version records g call_of next)) call
   pub answered_by_one_commit : (g : ℕ) (es rest : List Entry) → log ≡ es ++ rest → (call : ℕ) (op : Op) (answer : Answer) (h : IsAnswered es call op answer) → SaysChanged op answer g
       → CommitsOnce config.geometry bricks tree next es h.earlier h.between call h.client op g
+  pub agree_at_flat_file : (g : ℕ) (es rest : List Entry) → log ≡ es ++ rest → AgreesAtFlatFile config records bricks tree next g es
+  pub heads_stand : (g : ℕ) (es rest : List Entry) → log ≡ es ++ rest → HoldsInVolume HeadsStand config records bricks tree next g es
+  pub names_held : (g : ℕ) (es rest : List Entry) → log ≡ es ++ rest → HoldsNames config records bricks tree next g es
+  pub answered_with_cause : (es rest : List Entry) (call : ℕ) (answer : Answer) → log ≡ es ++ Answered call answer ∷ rest → HasCauseInLog config bricks tree next log call answer
 
 -- what holds after the log of every world that began with bricks that stand for a tree, where the log is a run
-abbrev pub VersionLaws : (Ctx → Given → AnyCall → List Own → Type 0) → (Ctx → Given → List Own → Type 0) → Type 0
-VersionLaws stands by_table =
+abbrev pub ConsistencyLaws : (Ctx → Given → AnyCall → List Own → Type 0) → (Ctx → Given → List Own → Type 0) → Type 0
+ConsistencyLaws stands by_table =
     (config : Config) (records : ℕ → Records) (bricks : ℕ → State) (tree : Tree) (next : ℕ) (w : World)
-    → IsStart config records bricks tree next → IsFrom stands by_table w config.geometry next → IsRun config.geometry.n (log_of w.cluster) (fresh bricks)
-    → HasVersions config records bricks tree next (log_of w.cluster)
+    → IsStart config records bricks tree next → BeganWith stands by_table w config.geometry next → IsRun config.geometry.n (log_of w.cluster) (fresh bricks)
+    → IsConsistent config records bricks tree next (log_of w.cluster)

@@ -1,16 +1,13 @@
 -- A run between two lines of its script, and its ends.
-use Rattle.std.proofs.Common.{◌≡◌, ◌≢◌, ◌⊎◌, inl, inr, ℕ, ◌+◌, ◌<◌, ◌≤◌, Bool, List, [], ◌∷◌, ◌++◌, Option, Some, None, Result, Ok, Err, length, refl, sym, ap, subst, ◌∙◌, append_assoc, append-nil, length-append, arith}
+use Rattle.std.proofs.Common.{◌≡◌, ◌≢◌, inl, inr, ℕ, ◌+◌, ◌<◌, ◌≤◌, Bool, List, [], ◌∷◌, ◌++◌, Option, Some, None, Ok, Err, length, refl, sym, ap, subst, ◌∙◌, append_assoc, append-nil, length-append, arith}
 use Rattle.std.specs.Prelude.{IfSome}
 use Rattle.std.specs.Io.KnownBytes.{Appends, Keeps}
 use Rattle.std.proofs.KnownBytes.{Appends-nil, Appends-trans}
 use Rattle.ec_cluster.specs.Matches.{StandsAs}
 use Rattle.ec_history.specs.Run.{Net, run}
-use Rattle.ec_history.specs.Script.{IsLogOf}
 use Rattle.ec_script.specs.declared.fault.LineFault.{LineFault}
 use Rattle.ec_script.specs.declared.fault.LineFault.TheVariants as fault
-use Rattle.ec_store.specs.Causes.{Begins}
 use Rattle.ec_store.specs.Records.{Records}
-use Rattle.ec_wire.specs.declared.entry.Entry.{Entry}
 use Rattle.ec_wire.specs.declared.event.Event.{Event}
 use Rattle.ec_play.specs.declared.obeying.Stop.{Stop}
 use Rattle.ec_play.specs.declared.obeying.Stop.TheVariants as stop
@@ -18,8 +15,8 @@ use Rattle.ec_play.specs.declared.status.ScriptWhy.{ScriptWhy}
 use Rattle.ec_play.specs.declared.status.ScriptWhy.TheVariants as why
 use Rattle.ec_play.specs.declared.status.Status.{Status}
 use Rattle.ec_play.specs.declared.status.Status.TheVariants as status
-use Rattle.ec_play.specs.Ends.{Ends, IsBadFor, IsBroken, IsCutShort, IsFront, IsHalfOpen, IsHalfWritten, IsObeyed, IsPlayed, IsUnread}
-use Rattle.ec_play.specs.Going.{BeginsOpen, Between, Broken, Finishes, Goes, HalfTold, IsBadAs, Obeys, Plays, Stopped, TellsOpen}
+use Rattle.ec_play.specs.Ends.{Ends, IsBadFor, IsBroken, IsHalfOpen, IsHalfWritten, IsPlayed, IsUnread}
+use Rattle.ec_play.specs.Going.{BeginsOpen, Between, Broken, Finishes, Goes, HalfTold, IsBadAs, Obeys, Plays, Stopped}
 use Rattle.ec_play.specs.Lines.{BeginsLong, HasLine, HasNoLine, TakesLine, lines}
 use Rattle.ec_play.specs.Meaning.{Meaning}
 use Rattle.ec_play.specs.Orders.{line_order, orders}

@@ -1,5 +1,5 @@
 -- One event more, and what stands where it isn't obeyed or told.
-use Rattle.std.proofs.Common.{◌≡◌, ◌≢◌, ◌⊎◌, inl, inr, ℕ, Bool, List, [], ◌∷◌, ◌++◌, Option, Some, None, Result, Ok, Err, refl, sym, ap, subst, ◌∙◌}
+use Rattle.std.proofs.Common.{◌≡◌, ◌≢◌, ℕ, Bool, List, [], ◌∷◌, ◌++◌, Option, Some, Ok, refl, sym, ap, subst, ◌∙◌}
 use Rattle.std.specs.Io.KnownBytes.{Appends}
 use Rattle.std.proofs.KnownBytes.{Appends-trans}
 use Rattle.std.proofs.lemmas.Grind.{flat_map-append}
@@ -8,11 +8,9 @@ use Rattle.ec_history.specs.Run.{Net, run}
 use Rattle.ec_history.proofs.Runs.{joins, longer}
 use Rattle.ec_store.specs.Causes.{Begins}
 use Rattle.ec_store.specs.Records.{Records}
-use Rattle.ec_wire.specs.declared.entry.Entry.{Entry}
 use Rattle.ec_wire.specs.declared.event.Event.{Event}
 use Rattle.ec_world.specs.declared.refused.Refused.{Refused}
 use Rattle.ec_world.specs.declared.refused.Refused.TheVariants as refused
-use Rattle.ec_play.specs.Ends.{IsHalfTold}
 use Rattle.ec_play.specs.Going.{Broken, Goes, HalfTold, Obeys, Plays}
 use Rattle.ec_play.specs.Meaning.{Breaks, Does, Fails, Meaning, Refuses}
 use Rattle.ec_play.specs.Texts.{entry_line, text_of}

@@ -1,5 +1,6 @@
 pub mod KnownLemmas
 pub mod TakenLemmas
+pub mod LooksLemmas
 pub mod LineLemmas
 pub mod HeldLines
 pub mod SplitLemmas

@@ -1,9 +1,8 @@
 -- What the lines of a script order, one line more.
-use Rattle.std.proofs.Common.{◌≡◌, ℕ, suc, ◌+◌, ◌<◌, ◌≤◌, List, [], ◌∷◌, ◌++◌, Option, Some, None, Result, Ok, Err, length, refl, ap, ◌∙◌, arith}
-use Rattle.std.specs.Prelude.{option_and_then, nat_lt}
+use Rattle.std.proofs.Common.{◌≡◌, ℕ, suc, ◌+◌, ◌<◌, ◌≤◌, List, [], ◌∷◌, ◌++◌, Option, Some, None, Err, length, refl, ap, ◌∙◌, arith}
+use Rattle.std.specs.Prelude.{option_and_then}
 use Rattle.std.proofs.lemmas.Bool.{le-ltb, lt-ltb}
 use Rattle.ec_script.specs.Lines.{line_event}
-use Rattle.ec_script.specs.declared.fault.LineFault.{LineFault}
 use Rattle.ec_script.specs.declared.fault.LineFault.TheVariants.{TooLong, TooMany}
 use Rattle.ec_wire.specs.declared.event.Event.{Event}
 use Rattle.ec_play.specs.Orders.{line_order, orders, with_order}

@@ -1,5 +1,5 @@
 -- What something to play on was begun with, line by line.
-use Rattle.std.proofs.Common.{◌≡◌, ◌≢◌, ℕ, List, Result, Ok, Err, refl, subst, sym}
+use Rattle.std.proofs.Common.{◌≢◌, ℕ, List, Err, subst, sym}
 use Rattle.ec_attr.specs.declared.geometry.Geometry.{Geometry}
 use Rattle.ec_store.specs.Records.{Records}
 use Rattle.ec_wire.specs.declared.event.Event.{Event}

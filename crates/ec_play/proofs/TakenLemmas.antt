@@ -1,5 +1,5 @@
 -- How much of a source is taken by one step after another.
-use Rattle.std.proofs.Common.{◌≡◌, ℕ, ◌+◌, ◌*◌, ◌-◌, ◌≤◌, List, [], ◌++◌, None, Some, Option, Ok, Err, Result, length, take, drop, refl, sym, ap, subst, ◌∙◌, append_assoc, append-nil, length-append, arith}
+use Rattle.std.proofs.Common.{◌≡◌, ℕ, ◌+◌, ◌*◌, ◌-◌, ◌≤◌, List, [], ◌++◌, None, Some, Option, Ok, Err, Result, length, take, drop, refl, sym, length-append, arith}
 use Rattle.std.specs.Prelude.{Bool, OnErr, OnOk}
 use Rattle.std.specs.Io.KnownBytes.{Consumes, Keeps, prepend_known}
 use Rattle.std.proofs.KnownBytes.{Consumes-trans}

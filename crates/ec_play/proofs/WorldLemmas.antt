@@ -13,7 +13,7 @@ use Rattle.ec_conduct.specs.Given.{Given}
 use Rattle.ec_conduct.specs.Own.{Own}
 use Rattle.ec_history.specs.IsRun.{IsRun}
 use Rattle.ec_history.specs.Run.{Net, run}
-use Rattle.ec_history.specs.Script.{IsOfEvent, Step, entries_of}
+use Rattle.ec_history.specs.Script.{IsOfEvent, entries_of}
 use Rattle.ec_script.specs.Printed.{IsEvent}
 use Rattle.ec_store.specs.Records.{Records}
 use Rattle.ec_txn.specs.declared.ctx.Ctx.{Ctx}
@@ -21,7 +21,7 @@ use Rattle.ec_wire.specs.declared.event.Event.{Event}
 use Rattle.ec_wire.specs.declared.event.Event.TheVariants as event
 use Rattle.ec_world.specs.Events.{Advances, Breaks as BreaksIn, FirstOfEvent, OfEvent, Stepped}
 use Rattle.ec_world.specs.Refusals.{IsRefusal}
-use Rattle.ec_world.specs.Versions.{ButForMemory, IsFrom}
+use Rattle.ec_world.specs.Consistency.{ButForMemory, BeganWith}
 use Rattle.ec_world.specs.Whole.{IsAs, IsNotBuilt, IsOpen, IsUnbuilt, StaysOpen, Steps as StepsOf}
 use Rattle.ec_world.specs.World.{FitsEvent}
 use Rattle.ec_world.specs.declared.refused.Refused.{Refused}
@@ -34,7 +34,7 @@ module _ (stands : Ctx → Given → AnyCall → List Own → Type 0) (by_table 
   -- an event that is done
   world_does : (Told : Type 0) (e : Event) (s t : World) (before after : List Records) → t.bricks ≡ s.bricks → IsOpen stands by_table t
       → Advances stands by_table Told (OfEvent (size_of s.cluster) e) s.cluster t.cluster s.clients t.clients before after
-      → ((geometry : Geometry) (first : ℕ) → IsFrom stands by_table s geometry first → IsFrom stands by_table t geometry first)
+      → ((geometry : Geometry) (first : ℕ) → BeganWith stands by_table s geometry first → BeganWith stands by_table t geometry first)
       → Does (meaning_of stands by_table) Told s t before after e
   world_does Told e s t before after same stays x since = record {
     entries = entries_of x.steps;
@@ -113,7 +113,7 @@ module _ (stands : Ctx → Given → AnyCall → List Own → Type 0) (by_table 
 
   world_stepped : (Told : Type 0) (e : Event) (s t : World) (before after : List Records) (result : Result (Unit {0}) Refused) → t ≡ record s { clients = t.clients; cluster = t.cluster }
       → ¬ (IsUnbuilt e) → (o : Option Refused) → IsRefusal stands s.cluster s.clients e o
-      → Stepped stands by_table Told (OfEvent (size_of s.cluster) e) (FirstOfEvent (size_of s.cluster) e) s.cluster t.cluster s.clients t.clients before after o result → StaysOpen stands by_table t result → ((geometry : Geometry) (first : ℕ) → IsFrom stands by_table s geometry first → ButForMemory result (IsFrom stands by_table t geometry first))
+      → Stepped stands by_table Told (OfEvent (size_of s.cluster) e) (FirstOfEvent (size_of s.cluster) e) s.cluster t.cluster s.clients t.clients before after o result → StaysOpen stands by_table t result → ((geometry : Geometry) (first : ℕ) → BeganWith stands by_table s geometry first → ButForMemory result (BeganWith stands by_table t geometry first))
       → Steps (meaning_of stands by_table) Told s t before after e result
   world_stepped Told e s t before after (Ok x) same built o r h stays since = world_does Told e s t before after (same_bricks s t same) stays h.1 since
   world_stepped Told e s t before after (Err refused.NoMemory) same built o r h stays since = world_breaks Told e s t before after (same_bricks s t same) h
@@ -133,7 +133,7 @@ module _ (stands : Ctx → Given → AnyCall → List Own → Type 0) (by_table 
 
   -- what comes of an event
   pub world_steps : (Told : Type 0) (e : Event) (s t : World) (before after : List Records) (result : Result (Unit {0}) Refused) → t ≡ record s { clients = t.clients; cluster = t.cluster }
-      → StepsOf stands by_table Told e s t before after result → StaysOpen stands by_table t result → ((geometry : Geometry) (first : ℕ) → IsFrom stands by_table s geometry first → ButForMemory result (IsFrom stands by_table t geometry first))
+      → StepsOf stands by_table Told e s t before after result → StaysOpen stands by_table t result → ((geometry : Geometry) (first : ℕ) → BeganWith stands by_table s geometry first → ButForMemory result (BeganWith stands by_table t geometry first))
       → Steps (meaning_of stands by_table) Told s t before after e result
   world_steps Told e s t before after result same (inl h) stays since =
       subst (λ (r : Result (Unit {0}) Refused). Steps (meaning_of stands by_table) Told s t before after e r) (sym h.refused)

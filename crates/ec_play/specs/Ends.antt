@@ -1,13 +1,11 @@
 -- What a status says of a script that is played, of its log and of what is written.
-use Rattle.std.specs.Prelude.{◌≡◌, ◌≢◌, ◌⊎◌, ℕ, ◌+◌, Bool, List, [], ◌∷◌, ◌++◌, length, Option, Some, None, Result, Ok, Err}
+use Rattle.std.specs.Prelude.{◌≡◌, ◌≢◌, ◌⊎◌, ℕ, ◌+◌, Bool, List, [], ◌∷◌, ◌++◌, length, Option, Some, Ok, Err}
 use Rattle.std.specs.Io.KnownBytes.{Appends}
-use Rattle.ec_brick.specs.State.{State}
 use Rattle.ec_cluster.specs.Matches.{StandsAs}
 use Rattle.ec_history.specs.IsRun.{IsRun}
-use Rattle.ec_history.specs.Run.{Net, fresh, run}
+use Rattle.ec_history.specs.Run.{Net, run}
 use Rattle.ec_history.specs.Script.{IsLogOf}
 use Rattle.ec_script.specs.declared.fault.LineFault.TheVariants as fault
-use Rattle.ec_store.specs.Causes.{Begins}
 use Rattle.ec_store.specs.Records.{Records}
 use Rattle.ec_wire.specs.declared.entry.Entry.{Entry}
 use Rattle.ec_wire.specs.declared.event.Event.{Event}

@@ -8,7 +8,7 @@ use Rattle.ec_history.specs.Run.{Net}
 use Rattle.ec_play.specs.Meaning.{Meaning}
 use Rattle.ec_store.specs.Records.{Records}
 use Rattle.ec_txn.specs.declared.ctx.Ctx.{Ctx}
-use Rattle.ec_world.specs.Versions.{IsFrom}
+use Rattle.ec_world.specs.Consistency.{BeganWith}
 use Rattle.ec_world.specs.Whole.{IsAs, IsOpen, IsRefused}
 use Rattle.ec_world.specs.declared.world.World.{World}
 
@@ -24,7 +24,7 @@ meaning_of stands by_table = record {
   bricks = λ w. w.bricks;
   keeps = IsOpen stands by_table;
   stands = StandsIn stands by_table;
-  since = IsFrom stands by_table;
+  since = BeganWith stands by_table;
   refuses = IsRefused stands;
 }
 

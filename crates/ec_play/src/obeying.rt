@@ -49,7 +49,8 @@ fn obey_event<W: Stage<B, T>, B: BrickStore, T, O: Sink>(
     ensures since { ButForMemory result ((geometry : Geometry) (first : ℕ) → W.meaning.since stage.old geometry first → W.meaning.since stage.new geometry first) }
     ensures ok { OnOk result ((start : Net) (old : Option (List ℕ)) (events : List EventOf)
         → Goes W.meaning (list_all B.told stores.old ≡ true) logs start old events stage.old (map B.records stores.old) (O.written out.old)
-        → Obeys W.meaning (list_all B.told stores.old ≡ true) logs start old events (Ok (Some event.now)) stage.new (map B.records stores.new) (O.written out.new)) }
+        → Obeys W.meaning (list_all B.told stores.old ≡ true) logs start old events (Ok (Some event.now)) stage.new
+        (map B.records stores.new) (O.written out.new)) }
     ensures err { IfErr result (λ stop. (start : Net) (old : Option (List ℕ)) (events : List EventOf)
         → Goes W.meaning (list_all B.told stores.old ≡ true) logs start old events stage.old (map B.records stores.old) (O.written out.old)
         → Stopped W.meaning (list_all B.told stores.old ≡ true) logs start old events (Ok (Some event.now)) stage.old stage.new (map B.records stores.new) (O.written out.new) stop) }

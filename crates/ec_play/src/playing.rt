@@ -1,5 +1,5 @@
 // A script that is played.
-ghost use Rattle.std.specs.Prelude.{◌≡◌, ◌≢◌, ◌<◌, ◌≤◌, ℕ, [], false, true, length, map, IfSome, IsErrOf, is_some};
+ghost use Rattle.std.specs.Prelude.{◌≡◌, ◌≢◌, ◌<◌, ◌≤◌, ℕ, List, [], false, true, length, map, IfSome, IsErrOf, is_some};
 ghost use Rattle.std.specs.List.{list_all};
 ghost use Rattle.ec_attr.specs.declared.geometry.Geometry.{Geometry};
 ghost use Rattle.ec_brick.specs.State.{State};
@@ -8,7 +8,7 @@ ghost use Rattle.ec_store.specs.Causes.{Rose};
 ghost use Rattle.ec_play.specs.Ends.{Ends};
 ghost use Rattle.ec_play.specs.Going.{Finishes};
 ghost use Rattle.ec_play.specs.Statuses.{ButForMemoryIn, is_refusal, stop_status};
-ghost use Rattle.ec_play.specs.Taken.{TakesAtMost, most_of_script};
+ghost use Rattle.ec_play.specs.Taken.{LooksAt, StopsAfter, TakesAtMost, most_of_script};
 
 use crate::obeying::{Stop, obey};
 use crate::reader::{LineReader, MOST_LINES, ReadError};
@@ -38,13 +38,17 @@ pub fn play<W: Stage<B, T>, B: BrickStore, T, S: Source, O: Sink>(
 
     // The log, what is written and what the stores hold, by the status.
     ensures script { (bricks : ℕ → State) → (list_all B.told stores.old ≡ true → W.meaning.stands stage.old (map B.records stores.old) (fresh bricks))
-        → IfSome (S.left script.old) (λ input. Ends W.meaning (list_all B.told stores.old ≡ true) (W.meaning.bricks stage.old) logs (fresh bricks) result input (O.written out.old) (O.written out.new) (W.meaning.log stage.new) (map B.records stores.new)) }
+        → IfSome (S.left script.old) (λ input.
+        Ends W.meaning (list_all B.told stores.old ≡ true) (W.meaning.bricks stage.old) logs (fresh bricks) result input
+        (O.written out.old) (O.written out.new) (W.meaning.log stage.new) (map B.records stores.new)) }
 
     // But for want of memory, what it was begun with is as before.
     ensures since { ButForMemoryIn result ((geometry : Geometry) (first : ℕ) → W.meaning.since stage.old geometry first → W.meaning.since stage.new geometry first) }
 
-    // No more is taken of the script than a line more than it may have.
+    // No more is taken of the script than a line more than it may have, and no more is looked at than the lines that are
+    // obeyed and the one after them.
     ensures taken { TakesAtMost most_of_script (S.left script.old) (S.left script.new) }
+    ensures looks { LooksAt result (S.left script.old) (S.left script.new) }
 
     // A fault of the source or the sink.
     ensures read { result ≡ Status.ReadFault → Rose (S.faults script.old) (S.faults script.new) }
@@ -110,6 +114,7 @@ fn end<W: Means, O: Sink>(alloc: Global, stage: &W, out: &mut O) -> Status
     requires keeps { W.meaning.keeps stage.now }
     ensures going { is_refusal result ≡ false }
     ensures unread { result ≢ Status.ReadFault }
+    ensures stops { (front : List (List ℕ)) → StopsAfter result front [] }
     ensures text { (bricks : ℕ → State) → Finishes result (run (W.meaning.log stage.now) (fresh bricks)) (O.written out.old) (O.written out.new) }
     ensures later { O.faults out.old ≤ O.faults out.new }
     ensures cause { result ≡ Status.WriteFault → Rose (O.faults out.old) (O.faults out.new) }

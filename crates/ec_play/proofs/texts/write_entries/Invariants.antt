@@ -1,4 +1,3 @@
-use Rattle.ec_play.proofs.TextLemmas.{written_more}
 use Rattle.std.proofs.Common.{◌≡◌, ◌≤◌, is_some, take}
 use Rattle.std.specs.Io.KnownBytes.{Appends}
 use Rattle.ec_play.specs.Texts.{text_of}

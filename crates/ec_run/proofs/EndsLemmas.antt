@@ -14,11 +14,11 @@ use Rattle.ec_play.specs.Statuses.{ButForMemoryIn}
 use Rattle.ec_play.specs.declared.status.BricksWhy.TheVariants as wrong
 use Rattle.ec_play.specs.declared.status.Status.{Status}
 use Rattle.ec_play.specs.declared.status.Status.TheVariants as status
-use Rattle.ec_run.proofs.VersionLemmas.{ends_run}
+use Rattle.ec_run.proofs.ConsistencyLemmas.{ends_run}
 use Rattle.ec_run.proofs.VolumeLemmas.{told, told_both}
 use Rattle.ec_run.specs.Run.{EndsOrdered, EndsRun, HasRun, IsOtherCount, IsUntouched, is_before_opening}
 use Rattle.ec_run.specs.Starts.{AreStarted, EndsStarted, HasPlayed, IsUnopened, start_status}
-use Rattle.ec_run.specs.Versions.{VersionsFor}
+use Rattle.ec_run.specs.Consistency.{IsConsistentSince}
 use Rattle.ec_store.specs.Records.{Records}
 use Rattle.ec_volfile.specs.Grammar.{IsVolumeFile}
 use Rattle.ec_volfile.specs.Outline.{outline}
@@ -55,12 +55,12 @@ module _ {W : Type 0} (M : Meaning W) (Told : Type 0) (volume : Volume) (logs : 
   unopened (Some input) b fault old new log h = unopened_ends b fault input old new log h
 
   pub played : (started : List Records) (left : Option (List ℕ)) (how : Status) (old new : Option (List ℕ)) (log : List Entry) → (Told → AreStarted (config_of volume) volume.geometry.n before started)
-      → (Told → ButForMemoryIn how (IsRun volume.geometry.n log (fresh (opened (config_of volume) started))) → ButForMemoryIn how (VersionsFor volume started log))
+      → (Told → ButForMemoryIn how (IsRun volume.geometry.n log (fresh (opened (config_of volume) started))) → ButForMemoryIn how (IsConsistentSince volume started log))
       → IfSome left (λ input. Ends M Told volume.geometry.n logs (fresh (opened (config_of volume) started)) how input old new log after)
       → IfSome left (λ input. EndsStarted M Told volume logs before after how input old new log)
-  played started None how old new log are versions h = tt
-  played started (Some input) how old new log are versions h =
-      played_ends how input old new log (record { started = started; are_started = are; ends = h; versions = λ told. versions told (ends_run M Told volume.geometry.n logs (fresh (opened (config_of volume) started)) how input old new log after h told) })
+  played started None how old new log are consistent h = tt
+  played started (Some input) how old new log are consistent h =
+      played_ends how input old new log (record { started = started; are_started = are; ends = h; consistent = λ told. consistent told (ends_run M Told volume.geometry.n logs (fresh (opened (config_of volume) started)) how input old new log after h told) })
 
 -- the run of a volume file and of what is ordered
 module _ {W : Type 0} (M : Meaning W) (Told : Type 0) (words : List (List ℕ)) (there : ℕ) (before after : List Records) where
@@ -100,11 +100,11 @@ are_started config n count before now same accepted kept roots others = subst (�
 -- a script that was played from stores that tell what they told, and are as many as the volume's bricks
 pub played_from : {W : Type 0} (M : Meaning W) (volume : Volume) (logs : Bool) (before after : List Records) (now was : Bool) (count : ℕ) (started : List Records) (left : Option (List ℕ)) (how : Status) (old new : Option (List ℕ)) (log : List Entry)
     → now ≡ was → count ≡ volume.geometry.n → (was ≡ true → AreStarted (config_of volume) volume.geometry.n before started)
-    → (was ≡ true → ButForMemoryIn how (IsRun volume.geometry.n log (fresh (opened (config_of volume) started))) → ButForMemoryIn how (VersionsFor volume started log))
+    → (was ≡ true → ButForMemoryIn how (IsRun volume.geometry.n log (fresh (opened (config_of volume) started))) → ButForMemoryIn how (IsConsistentSince volume started log))
     → IfSome left (λ input. Ends M (now ≡ true) count logs (fresh (opened (config_of volume) started)) how input old new log after)
     → IfSome left (λ input. EndsStarted M (was ≡ true) volume logs before after how input old new log)
-played_from M volume logs before after now was count started left how old new log same many are versions h =
-    played M (was ≡ true) volume logs before after started left how old new log are versions
+played_from M volume logs before after now was count started left how old new log same many are consistent h =
+    played M (was ≡ true) volume logs before after started left how old new log are consistent
     (subst (λ (b : Bool). IfSome left (λ input. Ends M (b ≡ true) volume.geometry.n logs (fresh (opened (config_of volume) started)) how input old new log after)) same
     (subst (λ (n : ℕ). IfSome left (λ input. Ends M (now ≡ true) n logs (fresh (opened (config_of volume) started)) how input old new log after)) many h))
 

@@ -1,5 +1,5 @@
 pub mod VolumeText
-pub mod Versions
+pub mod Consistency
 pub mod Starts
 pub mod Reports
 pub mod Run

@@ -3,8 +3,10 @@ ghost use Rattle.std.specs.Prelude.{◌≡◌, ◌≢◌, ℕ, IfSome, [], false
 ghost use Rattle.std.specs.Io.KnownBytes.{Keeps};
 ghost use Rattle.std.specs.List.{list_all};
 ghost use Rattle.ec_brick.specs.StartFault.{is_failure};
+ghost use Rattle.ec_law_data.specs.Link.{IsWhole};
+ghost use Rattle.ec_law_plans.specs.Given.{EachRequest};
 ghost use Rattle.ec_play.specs.Statuses.{is_refusal};
-ghost use Rattle.ec_play.specs.Taken.{TakesAtMost, most_of_script};
+ghost use Rattle.ec_play.specs.Taken.{LooksAt, TakesAtMost, most_of_script};
 ghost use Rattle.ec_run.specs.Run.{is_before_opening};
 ghost use Rattle.ec_run.specs.Starts.{EndsStarted, start_status};
 ghost use Rattle.ec_store.specs.Causes.{Rose};
@@ -16,7 +18,7 @@ use ec_play::{BricksWhy, Means, Status};
 use ec_store::{BrickStore, Sink, Source};
 use ec_volfile::{Kernel, Volume};
 use ec_wire::Log;
-use ec_world::{World, version_laws};
+use ec_world::{World, consistency_laws};
 use std::alloc::Global;
 
 /// The status of a run whose bricks aren't opened.
@@ -56,14 +58,16 @@ pub fn start_and_play<S: Source, O: Sink, B: BrickStore, F: Multiply, G: Combine
         EndsStarted (⟦<World as Means>⟧.meaning) (list_all B.told stores.old ≡ true) volume.now logs
         (map B.records stores.old) (map B.records stores.new) result input (O.written out.old) (O.written out.new)
         log.new) }
+    ensures whole { EachRequest IsWhole log.new }
     ensures started { is_before_opening result ≡ false }
     ensures taken { TakesAtMost most_of_script (S.left script.old) (S.left script.new) }
+    ensures looks { LooksAt result (S.left script.old) (S.left script.new) }
     ensures read { result ≡ Status.ReadFault → Rose (S.faults script.old) (S.faults script.new) }
     ensures write { result ≡ Status.WriteFault → Rose (O.faults out.old) (O.faults out.new) }
     ensures store { (b : ℕ) → result ≡ Status.StoreFault b
         → Rose (slice_index (map B.faults stores.old) b) (slice_index (map B.faults stores.new) b) }
 {
-    version_laws();
+    consistency_laws();
     let world = match World::start(alloc, volume, stores) {
         Ok(world) => world,
         Err((brick, fault)) => return status_of_start(brick, fault),

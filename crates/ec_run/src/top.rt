@@ -1,9 +1,11 @@
 // The top call.
-ghost use Rattle.std.specs.Prelude.{◌≡◌, ◌⊎◌, ℕ, IfSome, None, [], map, slice_index, true, vec_len};
+ghost use Rattle.std.specs.Prelude.{◌≡◌, ◌⊎◌, ℕ, IfSome, None, [], false, map, slice_index, true, vec_len};
 ghost use Rattle.std.specs.Io.KnownBytes.{Keeps};
 ghost use Rattle.std.specs.List.{list_all};
+ghost use Rattle.ec_law_data.specs.Link.{IsWhole};
+ghost use Rattle.ec_law_plans.specs.Given.{EachRequest};
 ghost use Rattle.ec_play.specs.Statuses.{is_refusal};
-ghost use Rattle.ec_play.specs.Taken.{TakesAtMost, most_of_script};
+ghost use Rattle.ec_play.specs.Taken.{LooksAt, TakesAtMost, most_of_script};
 ghost use Rattle.ec_run.specs.Run.{EndsRun, is_before_opening, is_report_order};
 ghost use Rattle.ec_run.specs.VolumeText.{most_of_volume};
 ghost use Rattle.ec_store.specs.Causes.{Rose};
@@ -61,10 +63,16 @@ pub fn run<V: Source, S: Source, O: Sink, B: BrickStore, F: Multiply, G: Combine
         file (vec_len bricks.old) (map B.records bricks.old.items) (map B.records bricks.new.items)
         result input (O.written out.old) (O.written out.new) log.new)) }
 
+    // Each chunk that the log sends has 512 bytes, as the names that bricks hold at each moment ask of it.
+    ensures whole { EachRequest IsWhole log.new }
+
     // However long they are, no more is taken of the volume file than a byte more than it may have, and of the script
-    // than a line more.
+    // than a line more. The lines that are obeyed are at most 2^20, none of them too long; the one after them is looked at
+    // no further than its first 2,200,001 bytes.
     ensures volume_taken { TakesAtMost most_of_volume (V.left vol.old) (V.left vol.new) }
     ensures script_taken { TakesAtMost most_of_script (S.left script.old) (S.left script.new) }
+    ensures script_lines { is_report_order (ordered (map (λ w. w.now) words.now)) ≡ false
+        → LooksAt result (S.left script.old) (S.left script.new) }
 
     // However the run ends, the bricks are as many, and tell their records or not as before.
     ensures count { vec_len bricks.new ≡ vec_len bricks.old }

@@ -3,7 +3,7 @@ use Rattle.std.specs.List.{list_all}
 use Rattle.std.proofs.KnownBytes.{Keeps-refl}
 use Rattle.ec_play.proofs.TakenLemmas.{takes_none}
 use Rattle.ec_play.specs.Taken.{most_of_script}
-use Rattle.ec_run.proofs.OrderLemmas.{checked_any, reported_any}
+use Rattle.ec_run.proofs.OrderLemmas.{checked_any, not_checked, not_reported, reported_any}
 use Rattle.ec_run.proofs.obeying.start_and_obey.Goals as goal
 
 pub returns-in-Info-clause-ends : goal.returns-in-Info-clause-ends
@@ -17,3 +17,15 @@ returns-in-Info-clause-taken g c = takes_none most_of_script (g.S.Source.left c.
 
 pub returns-in-Check-clause-taken : goal.returns-in-Check-clause-taken
 returns-in-Check-clause-taken g c = takes_none most_of_script (g.S.Source.left c.args.script.now) (g.S.Source.left c.args.script.now) (Keeps-refl (g.S.Source.left c.args.script.now))
+
+pub returns-in-Info-clause-looks : goal.returns-in-Info-clause-looks
+returns-in-Info-clause-looks g c = λ asked. absurd (not_reported c.args.command c.in-Info.is asked)
+
+pub returns-in-Check-clause-looks : goal.returns-in-Check-clause-looks
+returns-in-Check-clause-looks g c = λ asked. absurd (not_checked c.args.command c.in-Check.is asked)
+
+pub returns-in-Info-clause-whole : goal.returns-in-Info-clause-whole
+returns-in-Info-clause-whole g c = rw c.requires.empty tt
+
+pub returns-in-Check-clause-whole : goal.returns-in-Check-clause-whole
+returns-in-Check-clause-whole g c = rw c.requires.empty tt

@@ -1,6 +1,6 @@
 use Rattle.std.proofs.Common.{sym}
 use Rattle.ec_play.specs.contracts.world.WorldMeans.TheImpl.{ghosts as world}
-use Rattle.ec_run.proofs.VersionLemmas.{log_since}
+use Rattle.ec_run.proofs.ConsistencyLemmas.{log_since}
 use Rattle.ec_run.proofs.playing.play_world.Goals as goal
 
 pub returns-clause-script : goal.returns-clause-script

@@ -3,6 +3,9 @@ use Rattle.std.proofs.KnownBytes.{Keeps-refl}
 use Rattle.std.specs.List.{list_all}
 use Rattle.ec_play.proofs.TakenLemmas.{takes_none}
 use Rattle.ec_play.specs.Taken.{most_of_script}
+use Rattle.ec_play.proofs.LooksLemmas.{looks_at_none}
+use Rattle.ec_play.specs.declared.status.BricksWhy.TheVariants as wrong
+use Rattle.ec_play.specs.declared.status.Status.TheVariants as status
 use Rattle.ec_run.specs.VolumeText.{most_of_volume}
 use Rattle.ec_run.proofs.EndsLemmas.{run_counted, run_ordered, written_back}
 use Rattle.ec_run.proofs.top.run.Goals as goal
@@ -45,3 +48,42 @@ returns-in-Err-NoMemory-volume_of-clause-script_taken g c = takes_none most_of_s
 
 pub returns-then-len-from-clause-script_taken : goal.returns-then-len-from-clause-script_taken
 returns-then-len-from-clause-script_taken g c = takes_none most_of_script (g.S.Source.left c.args.script.now) (g.S.Source.left c.args.script.now) (Keeps-refl (g.S.Source.left c.args.script.now))
+
+pub returns-in-Err-Bad-clause-script_lines : goal.returns-in-Err-Bad-clause-script_lines
+returns-in-Err-Bad-clause-script_lines g c = λ asked. looks_at_none status.BadWords (g.S.Source.left c.args.script.now) (λ rest. tt)
+
+pub returns-in-Err-NoMemory-clause-script_lines : goal.returns-in-Err-NoMemory-clause-script_lines
+returns-in-Err-NoMemory-clause-script_lines g c = λ asked. looks_at_none status.NoMemory (g.S.Source.left c.args.script.now) (λ rest. tt)
+
+pub returns-in-Err-ReadFault-clause-script_lines : goal.returns-in-Err-ReadFault-clause-script_lines
+returns-in-Err-ReadFault-clause-script_lines g c = λ asked. looks_at_none status.ReadFault (g.S.Source.left c.args.script.now) (λ rest. tt)
+
+pub returns-in-Err-Refused-clause-script_lines : goal.returns-in-Err-Refused-clause-script_lines
+returns-in-Err-Refused-clause-script_lines g c = λ asked. rw c.in-Err-Refused.field-0-is (looks_at_none (status.BadVolume c.in-Err-Refused.line c.in-Err-Refused.why) (g.S.Source.left c.args.script.now) (λ rest. tt))
+
+pub returns-in-Err-NoMemory-volume_of-clause-script_lines : goal.returns-in-Err-NoMemory-volume_of-clause-script_lines
+returns-in-Err-NoMemory-volume_of-clause-script_lines g c = λ asked. looks_at_none status.NoMemory (g.S.Source.left c.args.script.now) (λ rest. tt)
+
+pub returns-then-len-from-clause-script_lines : goal.returns-then-len-from-clause-script_lines
+returns-then-len-from-clause-script_lines g c = λ asked. looks_at_none (status.WrongBricks (wrong.Count c.len-then-len-from.result c.from-then-len-from.result)) (g.S.Source.left c.args.script.now) (λ rest. tt)
+
+pub returns-clause-script_lines : goal.returns-clause-script_lines
+returns-clause-script_lines g c = λ asked. c.start_and_obey.ensures.looks (rw c.in-Ok.ensures.order at asked)
+
+pub returns-in-Err-Bad-clause-whole : goal.returns-in-Err-Bad-clause-whole
+returns-in-Err-Bad-clause-whole g c = rw c.requires.empty tt
+
+pub returns-in-Err-NoMemory-clause-whole : goal.returns-in-Err-NoMemory-clause-whole
+returns-in-Err-NoMemory-clause-whole g c = rw c.requires.empty tt
+
+pub returns-in-Err-ReadFault-clause-whole : goal.returns-in-Err-ReadFault-clause-whole
+returns-in-Err-ReadFault-clause-whole g c = rw c.requires.empty tt
+
+pub returns-in-Err-Refused-clause-whole : goal.returns-in-Err-Refused-clause-whole
+returns-in-Err-Refused-clause-whole g c = rw c.requires.empty tt
+
+pub returns-in-Err-NoMemory-volume_of-clause-whole : goal.returns-in-Err-NoMemory-volume_of-clause-whole
+returns-in-Err-NoMemory-volume_of-clause-whole g c = rw c.requires.empty tt
+
+pub returns-then-len-from-clause-whole : goal.returns-then-len-from-clause-whole
+returns-then-len-from-clause-whole g c = rw c.requires.empty tt

@@ -1,4 +1,4 @@
--- What a run says of the versions of records.
+-- What a run says of the consistency of its log and the bricks.
 use Rattle.std.specs.Prelude.{◌≡◌, ℕ, List}
 use Rattle.ec_attr.specs.declared.geometry.Geometry.{Geometry}
 use Rattle.ec_cluster.specs.Open.{opened}
@@ -8,15 +8,15 @@ use Rattle.ec_play.specs.Meaning.{Meaning}
 use Rattle.ec_store.specs.Records.{Records}
 use Rattle.ec_volfile.specs.declared.volume.Volume.{Volume}
 use Rattle.ec_wire.specs.declared.entry.Entry.{Entry}
-use Rattle.ec_world.specs.Versions.{HasVersions}
+use Rattle.ec_world.specs.Consistency.{IsConsistent}
 use Rattle.ec_world.specs.Whole.{config_of}
 
 -- the log is that of something to play on which was begun with this geometry and this next gfid
 abbrev pub IsLogSince : {W : Type 0} → Meaning W → Geometry → ℕ → List Entry → Type 0
 IsLogSince {W} M geometry first log = (w : W) × (M.log w ≡ log) × M.since w geometry first
 
--- where the stores, as they were opened, stand for a tree, the laws of versions hold after the log
-abbrev pub VersionsFor : Volume → List Records → List Entry → Type 0
-VersionsFor volume started log =
+-- where the stores, as they were opened, stand for a tree, all is consistent at each moment of the log
+abbrev pub IsConsistentSince : Volume → List Records → List Entry → Type 0
+IsConsistentSince volume started log =
     (tree : Tree) (next : ℕ) → IsStart (config_of volume) (λ b. (opened (config_of volume) started b).records) (opened (config_of volume) started) tree next
-    → HasVersions (config_of volume) (λ b. (opened (config_of volume) started b).records) (opened (config_of volume) started) tree next log
+    → IsConsistent (config_of volume) (λ b. (opened (config_of volume) started b).records) (opened (config_of volume) started) tree next log

@@ -1,4 +1,4 @@
--- The laws of versions after the log of a run, by its status.
+-- What is consistent after the log of a run, by its status.
 use Rattle.std.proofs.Common.{◌≡◌, ◌⊎◌, inl, inr, ℕ, Bool, List, Option, sym, subst, ap, ◌∙◌}
 use Rattle.ec_attr.specs.declared.geometry.Geometry.{Geometry}
 use Rattle.ec_calls.specs.declared.any.AnyCall.{AnyCall}
@@ -16,12 +16,12 @@ use Rattle.ec_play.specs.Statuses.{ButForMemoryIn}
 use Rattle.ec_play.specs.World.{meaning_of}
 use Rattle.ec_play.specs.declared.status.Status.{Status}
 use Rattle.ec_play.specs.declared.status.Status.TheVariants as status
-use Rattle.ec_run.specs.Versions.{IsLogSince, VersionsFor}
+use Rattle.ec_run.specs.Consistency.{IsLogSince, IsConsistentSince}
 use Rattle.ec_store.specs.Records.{Records}
 use Rattle.ec_txn.specs.declared.ctx.Ctx.{Ctx}
 use Rattle.ec_volfile.specs.declared.volume.Volume.{Volume}
 use Rattle.ec_wire.specs.declared.entry.Entry.{Entry}
-use Rattle.ec_world.specs.Versions.{HasVersions, IsFrom, VersionLaws}
+use Rattle.ec_world.specs.Consistency.{IsConsistent, BeganWith, ConsistencyLaws}
 use Rattle.ec_world.specs.Whole.{config_of}
 use Rattle.ec_world.specs.declared.world.World.{World}
 
@@ -53,17 +53,17 @@ both status.NoMemory P Q R f p q = tt
 from : (how : Status) (P R : Type 0) → (P → R) → ButForMemoryIn how P → ButForMemoryIn how R
 from how P R f p = both how P P R (λ x y. f x) p p
 
-module _ (stands : Ctx → Given → AnyCall → List Own → Type 0) (by_table : Ctx → Given → List Own → Type 0) (laws : VersionLaws stands by_table) (volume : Volume) (started : List Records) (first : ℕ) (log : List Entry)
+module _ (stands : Ctx → Given → AnyCall → List Own → Type 0) (by_table : Ctx → Given → List Own → Type 0) (laws : ConsistencyLaws stands by_table) (volume : Volume) (started : List Records) (first : ℕ) (log : List Entry)
     (unique : (tree : Tree) (next : ℕ) → IsStart (config_of volume) (λ b. (opened (config_of volume) started b).records) (opened (config_of volume) started) tree next → next ≡ first) where
-  versions : IsLogSince (meaning_of stands by_table) volume.geometry first log → IsRun volume.geometry.n log (fresh (opened (config_of volume) started)) → VersionsFor volume started log
-  versions (w, is, from) runs tree next start =
+  consistent : IsLogSince (meaning_of stands by_table) volume.geometry first log → IsRun volume.geometry.n log (fresh (opened (config_of volume) started)) → IsConsistentSince volume started log
+  consistent (w, is, from) runs tree next start =
       let config = config_of volume in
       let records : ℕ → Records = λ b. (opened config started b).records in
-      subst (λ (es : List Entry). HasVersions config records (opened config started) tree next es) is
-      (laws config records (opened config started) tree next w start (subst (λ (f : ℕ). IsFrom stands by_table w volume.geometry f) (sym (unique tree next start)) from) (subst (λ (es : List Entry). IsRun volume.geometry.n es (fresh (opened config started))) (sym is) runs))
+      subst (λ (es : List Entry). IsConsistent config records (opened config started) tree next es) is
+      (laws config records (opened config started) tree next w start (subst (λ (f : ℕ). BeganWith stands by_table w volume.geometry f) (sym (unique tree next start)) from) (subst (λ (es : List Entry). IsRun volume.geometry.n es (fresh (opened config started))) (sym is) runs))
 
-  pub run_versions : (how : Status) → ButForMemoryIn how (IsLogSince (meaning_of stands by_table) volume.geometry first log) → ButForMemoryIn how (IsRun volume.geometry.n log (fresh (opened (config_of volume) started))) → ButForMemoryIn how (VersionsFor volume started log)
-  run_versions how since runs = both how (IsLogSince (meaning_of stands by_table) volume.geometry first log) (IsRun volume.geometry.n log (fresh (opened (config_of volume) started))) (VersionsFor volume started log) versions since runs
+  pub run_consistent : (how : Status) → ButForMemoryIn how (IsLogSince (meaning_of stands by_table) volume.geometry first log) → ButForMemoryIn how (IsRun volume.geometry.n log (fresh (opened (config_of volume) started))) → ButForMemoryIn how (IsConsistentSince volume started log)
+  run_consistent how since runs = both how (IsLogSince (meaning_of stands by_table) volume.geometry first log) (IsRun volume.geometry.n log (fresh (opened (config_of volume) started))) (IsConsistentSince volume started log) consistent since runs
 
 -- a world that is finished leaves its log
 pub log_since : {W : Type 0} (M : Meaning W) (first now : W) (log : List Entry) (how : Status) → M.log now ≡ log → ButForMemoryIn how ((geometry : Geometry) (next : ℕ) → M.since first geometry next → M.since now geometry next)

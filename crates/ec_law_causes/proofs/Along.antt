@@ -21,6 +21,7 @@ use Rattle.ec_txn.proofs.Releasing.{last_to, unlocked_to}
 use Rattle.ec_txn.proofs.Rounds.{round_of}
 use Rattle.ec_txn.proofs.Steps.{opened_place, opened_ready}
 use Rattle.ec_law_turns.proofs.Allowed.{account_given, after_given}
+use Rattle.ec_law_causes.specs.Counted.{Windows}
 use Rattle.ec_law_causes.proofs.Rounds.{outside_round}
 
 some_same : {X : Type 0} (a b : X) → Some a ≡ Some b → a ≡ b
@@ -28,6 +29,14 @@ some_same a b e = cc
 
 none_some : {X : Type 0} (a : X) → None ≡ Some a → ⊥
 none_some a e = cc
+
+-- the windows of the bricks on the gfid of a call
+abbrev pub windows : Given → Account → Windows
+windows given c x = (at c (subject given.op) x).window
+
+-- they stay as locks are released
+pub unlocked : (given : Given) (d e : Account) → IsUnlocked (subject given.op) d e → (P : Windows → Type 0) → P (windows given d) → P (windows given e)
+unlocked given d e u P h = subst P (sym (fun_ext u.window)) h
 
 -- no such brick is asked or replies
 abbrev pub NonePast : ℕ → ℕ → Account → Type 0

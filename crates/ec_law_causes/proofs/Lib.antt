@@ -17,4 +17,11 @@ pub mod Write
 pub mod WriteSteps
 pub mod WriteTable
 pub mod Truncate
+pub mod Naming
+pub mod Lookup
+pub mod Changes
+pub mod Make
+pub mod Unlink
+pub mod Paging
+pub mod Readdir
 pub mod Worlds

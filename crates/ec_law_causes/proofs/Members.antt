@@ -135,7 +135,7 @@ serves_done p x i e = by (is_done x.reply) refl
     by false t = rw t refl
 
 -- a brick that holds its lock and doesn't serve failed in some request
-fails : (p : PlaceOf) → is_held p.inode ≡ true → serving p ≡ None → failed_none is_any p.window ≡ false
+pub fails : (p : PlaceOf) → is_held p.inode ≡ true → serving p ≡ None → failed_none is_any p.window ≡ false
 fails p held none = by (failed_none is_any p.window) refl
   where
     at_lock : (o : Option Lock) → is_held o ≡ true → grant_of o ≡ None → ⊥

@@ -34,6 +34,15 @@ module _ {P : Type 0} where
   pub say_same : (a b : Answer) (next : Next P) → next ≡ Say a → next ≡ Say b → a ≡ b
   say_same a b next e f = let z = sym e ∙ f in cc
 
+  -- a stage or an answer, by a test
+  pub go_when : (t : Bool) (p q : P) (answer : Answer) → Go q ≡ cond t (Go p) (Say answer) → (t ≡ true) × (q ≡ p)
+  go_when true p q answer e = (refl, go_same q p e)
+  go_when false p q answer e = absurd (go_say q answer e)
+
+  pub say_when : (t : Bool) (p : P) (a answer : Answer) → Say a ≡ cond t (Go p) (Say answer) → (t ≡ false) × (a ≡ answer)
+  say_when true p a answer e = absurd (say_go p a e)
+  say_when false p a answer e = (refl, say_same a answer (Say a) refl e)
+
   -- what follows a lock
   goes_by : (a b : Bool) (p r q : P) (s : Answer) → Go q ≡ cond a (Go p) (cond b (Go r) (Say s)) → ((a ≡ true) × (q ≡ p)) ⊎ ((a ≡ false) × (b ≡ true) × (q ≡ r))
   goes_by true b p r q s e = inl (refl, go_same q p e)

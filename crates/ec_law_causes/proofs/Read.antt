@@ -43,7 +43,7 @@ use Rattle.ec_wire.specs.declared.phase.Phase.TheVariants.{Query as QueryPhase, 
 use Rattle.ec_wire.specs.declared.reply.Reply.{Reply}
 use Rattle.ec_law_causes.specs.Causes.{Else, IsBytes, IsOfKind, IsTooLong, LacksRange, Opens, read_causes}
 use Rattle.ec_law_causes.specs.Counted.{Windows, gives, is_grouped, may_read, number_read}
-use Rattle.ec_law_causes.proofs.Along.{IsKept, NonePast, Tells}
+use Rattle.ec_law_causes.proofs.Along.{IsKept, NonePast, Tells, windows}
 use Rattle.ec_law_causes.proofs.Members.{HasMembers, grouped_below, members_begin, members_more, members_unlocked}
 use Rattle.ec_law_causes.proofs.Openings.{HereOpening, opening_here}
 use Rattle.ec_law_causes.proofs.OpeningSteps.{go_same, go_say, lock_goes, lock_says, queried, querying, say_go, say_same}
@@ -67,9 +67,6 @@ Short given = nat_lt (2 ^ 20) (len_in given.op) ≡ false
 abbrev pub HereRead : Ctx → Given → ReadStage → Account → Asks → Type 0
 HereRead x given (OpensAt stage) c f = HereOpening Shared given stage c f × Short given
 HereRead x given (Reads among size) c f = HereReads x given among size c f × Short given
-
-abbrev windows : Given → Account → Windows
-windows given c y = (at c (subject given.op) y).window
 
 start_below : (policy : Policy) (call g n : ℕ) → 0 < n → n ≤ 31 → start_by policy call g n < 31
 start_below RoundRobin call g n pos le = let l = mod-lt (call - 1) pos in omega (arith, l, le)

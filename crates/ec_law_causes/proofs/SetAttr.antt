@@ -1,11 +1,10 @@
 -- The causes of the answers of a setattr.
-use Rattle.std.proofs.Common.{◌≡◌, inl, inr, ◌≤◌, nat_le, Bool, false, true, cond, refl, sym, ◌∙◌, subst, arith}
-use Rattle.std.proofs.Math.Path.{fun_ext}
+use Rattle.std.proofs.Common.{◌≡◌, inl, inr, ◌≤◌, nat_le, false, true, cond, refl, sym, ◌∙◌, subst, arith}
 use Rattle.ec_answers.specs.declared.grouped.Grouped.{Grouped}
 use Rattle.ec_answers.specs.declared.grouped.Grouped.TheVariants.{Group as Found, Gone, Fewer}
 use Rattle.ec_attr.specs.declared.attr.Attr.{Attr as AttrOf}
 use Rattle.ec_attr.specs.declared.kind.LockKind.TheVariants.{Exclusive}
-use Rattle.ec_conduct.specs.Account.{Account, at}
+use Rattle.ec_conduct.specs.Account.{Account}
 use Rattle.ec_conduct.specs.Ballots.{attr_after}
 use Rattle.ec_conduct.specs.Given.{Given, bricks_of, quorum_of}
 use Rattle.ec_conduct.specs.Opened.{opened}
@@ -27,16 +26,13 @@ use Rattle.ec_wire.specs.declared.op.Op.{Op}
 use Rattle.ec_wire.specs.declared.op.Op.TheVariants.{SetAttr}
 use Rattle.ec_wire.specs.declared.phase.Phase.TheVariants.{Pre as PrePhase, Post as PostPhase, Query as QueryPhase}
 use Rattle.ec_law_causes.specs.Causes.{Else, IsAttr, PassesLimit, setattr_causes}
-use Rattle.ec_law_causes.specs.Counted.{FallsShort, Windows, number}
-use Rattle.ec_law_causes.proofs.Along.{IsKept, NonePast, Tells}
+use Rattle.ec_law_causes.specs.Counted.{FallsShort, number}
+use Rattle.ec_law_causes.proofs.Along.{IsKept, NonePast, Tells, unlocked, windows}
 use Rattle.ec_law_causes.proofs.BallotSteps.{clear_late, clear_members, no_short, past_limit, post_ends, post_late, post_members, post_stays, pre_ends, pre_members, pre_stays, within_limit}
 use Rattle.ec_law_causes.proofs.Members.{HasMembers, members_begin, members_more, members_unlocked}
 use Rattle.ec_law_causes.proofs.Openings.{HereOpening, opening_here}
-use Rattle.ec_law_causes.proofs.OpeningSteps.{go_same, go_say, lock_goes, lock_says, queried, querying, say_go, say_same}
+use Rattle.ec_law_causes.proofs.OpeningSteps.{go_same, go_say, go_when, lock_goes, lock_says, queried, querying, say_go, say_same, say_when}
 use Rattle.ec_law_causes.proofs.Queried.{JudgedIn, judged, opens_group}
-
-abbrev windows : Given → Account → Windows
-windows given c x = (at c (subject given.op) x).window
 
 abbrev HereVotes : Given → Ballot → Account → Type 0
 HereVotes given (Pre group) c = HasMembers given group 3 c
@@ -47,22 +43,10 @@ abbrev pub HereSetAttr : Given → SetAttrStage → Account → Asks → Type 0
 HereSetAttr given (OpensAt stage) c f = HereOpening Exclusive given stage c f
 HereSetAttr given (Votes stage) c f = HereVotes given stage c
 
-go_when : (t : Bool) (p q : SetAttrStage) (answer : Answer) → Go q ≡ cond t (Go p) (Say answer) → (t ≡ true) × (q ≡ p)
-go_when true p q answer e = (refl, go_same q p e)
-go_when false p q answer e = absurd (go_say q answer e)
-
-say_when : (t : Bool) (p : SetAttrStage) (a answer : Answer) → Say a ≡ cond t (Go p) (Say answer) → (t ≡ false) × (a ≡ answer)
-say_when true p a answer e = absurd (say_go p a e)
-say_when false p a answer e = (refl, say_same a answer (Say a) refl e)
-
 -- a setattr says its attribute
 told_attr : (op : Op) → IsSetAttr op → (attr : AttrOf) × (told (attr_after op) ≡ Attr attr)
 told_attr (SetAttr g attr) is = (attr, refl)
 told_attr op is = absurd (is)
-
--- an account that came by releases has the same windows
-unlocked : (given : Given) (d e : Account) → IsUnlocked (subject given.op) d e → (P : Windows → Type 0) → P (windows given d) → P (windows given e)
-unlocked given d e u P h = subst P (sym (fun_ext u.window)) h
 
 module _ (x : Ctx) (given : Given) (c : Account) (f : Asks) (d : Account) (isin : IsIn x given c) (none : NonePast (subject given.op) (bricks_of given) d) (r : IsRound (subject given.op) c f d) (idle : IsIdle d) where
   dg : d.given ≡ given

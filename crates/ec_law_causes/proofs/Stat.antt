@@ -55,6 +55,12 @@ not_dir given w head says e k other (dir, is, kind, answer) = both (sym k ∙ (a
     both : File ≡ Dir → ⊥
     both v = cc
 
+pub not_file : (given : Given) (w : Windows) (head : Head) (says : Answer) → head_in given w ≡ Some head → head.kind ≡ Dir → (other : Answer) → IsOfKind File says given w other → ⊥
+not_file given w head says e k other (file, is, kind, answer) = both (sym k ∙ (ap (λ (h : Head). h.kind) (sym (one_head given w head file e is)) ∙ kind))
+  where
+    both : Dir ≡ File → ⊥
+    both v = cc
+
 -- the group's record is a directory, or else the answer is its size
 stat_found : (given : Given) (w : Windows) (head : Head) (kind : Kind) → head_in given w ≡ Some head → head.kind ≡ kind → Else (IsOfKind Dir IsDir given w) (SaysSize given w) (size_of kind head)
 stat_found given w head Dir e k = inl (head, e, k, refl)

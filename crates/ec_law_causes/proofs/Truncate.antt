@@ -34,7 +34,7 @@ use Rattle.ec_wire.specs.declared.reply.Reply.{Reply}
 use Rattle.ec_wire.specs.declared.request.Request.{Request}
 use Rattle.ec_write.specs.Stripes.{count_gave, has_chunk}
 use Rattle.ec_law_causes.specs.Counted.{FallsShort, LacksChunks, Windows, gives, number, number_read}
-use Rattle.ec_law_causes.proofs.Along.{IsKept, NonePast, Tells}
+use Rattle.ec_law_causes.proofs.Along.{IsKept, NonePast, Tells, unlocked, windows}
 use Rattle.ec_law_causes.proofs.BallotSteps.{clear_late, clear_members, no_short, past_limit, post_ends, post_late, post_members, post_stays, pre_ends, pre_members, pre_stays, within_limit}
 use Rattle.ec_law_causes.proofs.Lacking.{given_count, lacking_members, lacks, late_read, read_stays}
 use Rattle.ec_law_causes.proofs.Members.{AsksMembers, HasMembers, PhaseOver, done_stays, ends, members_begin, members_more, members_over, members_unlocked}
@@ -56,7 +56,7 @@ use Rattle.ec_write.specs.Write.{read_asks, reading_of}
 use Rattle.ec_write.specs.declared.stage.TruncateStage.{TruncateStage}
 use Rattle.ec_write.specs.declared.stage.TruncateStage.TheVariants.{Cuts, Opens as OpensAt, Reads, Votes, Writes}
 use Rattle.ec_law_causes.specs.Causes.{Else, IsOfKind, IsSize, LacksTail, Opens, PassesLimit, TailFallsShort, cut_at, cuts_border, truncate_causes}
-use Rattle.ec_law_causes.proofs.Write.{PreOk, asked_in, not_long, start_below, unlocked, windows, writes_stay}
+use Rattle.ec_law_causes.proofs.Write.{PreOk, asked_in, not_long, start_below, writes_stay}
 use Rattle.ec_law_causes.proofs.WriteSteps.{only_write}
 use Rattle.ec_law_causes.proofs.Walking.{quiet_round}
 

@@ -164,7 +164,7 @@ module _ (stands : Ctx → Given → AnyCall → List Own → Type 0) (by_table 
         given = k.given;
         begun = ap (λ (b : Books). b.given call) (sym same) ∙ k.begun;
         answered = subst (λ (b : Books). (account k.given (b.own call)).answer ≡ Some answer) same told;
-        cause = λ covered. subst (λ (b : Books). HasCause (account k.given (b.own call)) answer) same (laws.cause k.x k.given k.call ((ledger p).own call) answer covered k.meets told);
+        cause = subst (λ (b : Books). HasCause (account k.given (b.own call)) answer) same (laws.cause k.x k.given k.call ((ledger p).own call) answer k.meets told);
       }
 
   pub cause_laws : WorldCauseLaws stands by_table

@@ -1,7 +1,6 @@
 -- The causes of the answers of a write.
 use Rattle.std.proofs.Common.{◌≡◌, ◌⊎◌, inl, inr, ℕ, ◌+◌, ◌-◌, ◌^◌, ◌<◌, ◌≤◌, ◌&&◌, nat_lt, Bool, false, true, cond, refl, sym, ◌∙◌, ap, subst, arith, List, length, Some, None}
 use Rattle.std.proofs.Math.Nat.{mod-lt}
-use Rattle.std.proofs.Math.Path.{fun_ext}
 use Rattle.std.proofs.lemmas.Bool.{and_parts}
 use Rattle.std.proofs.lemmas.Bool.Decides.{nat_tests}
 use Rattle.ec_answers.specs.declared.grouped.Group.{Group}
@@ -45,9 +44,7 @@ use Rattle.ec_law_causes.proofs.Queried.{HasGroup, opens_group}
 use Rattle.ec_law_causes.proofs.Ranks.{late_query, rank}
 use Rattle.ec_law_causes.proofs.Reading.{HereReading, asks_among}
 use Rattle.ec_law_causes.proofs.Stat.{not_dir, one_head}
-
-abbrev pub windows : Given → Account → Windows
-windows given c y = (at c (subject given.op) y).window
+use Rattle.ec_law_causes.proofs.Along.{unlocked, windows}
 
 abbrev pub many : Given → ℕ
 many given = length (data_of given.op)
@@ -113,9 +110,6 @@ HereWrite x given (OpensAt stage) c f = HereOpening Exclusive given stage c f ×
 HereWrite x given (Votes stage) c f = HereVotes given stage c
 HereWrite x given (Reads group reading front) c f = HereReads given group reading c f
 HereWrite x given (Writes group lists) c f = HasMembers given group 5 c × Writable given group × HasRead given group (windows given c)
-
-pub unlocked : (given : Given) (d e : Account) → IsUnlocked (subject given.op) d e → (P : Windows → Type 0) → P (windows given d) → P (windows given e)
-unlocked given d e u P h = subst P (sym (fun_ext u.window)) h
 
 -- ## What a call may say before it asks
 

@@ -41,7 +41,7 @@ use Rattle.ec_write.specs.declared.stage.WriteStage.{WriteStage}
 use Rattle.ec_write.specs.declared.stage.WriteStage.TheVariants.{Votes, Reads, Writes}
 use Rattle.ec_law_causes.specs.Causes.{Else, Opens, PassesLimit, WritesNothing, write_causes}
 use Rattle.ec_law_causes.specs.Counted.{FallsShort, LacksChunks, Windows, gives, number_read}
-use Rattle.ec_law_causes.proofs.Along.{NonePast}
+use Rattle.ec_law_causes.proofs.Along.{NonePast, unlocked, windows}
 use Rattle.ec_law_causes.proofs.BallotSteps.{no_short, past_limit, pre_stays}
 use Rattle.ec_law_causes.proofs.Lacking.{given_count, lacking_members, lacks, read_stays}
 use Rattle.ec_law_causes.proofs.Members.{HasMembers, members_begin, members_more, members_unlocked}
@@ -53,7 +53,7 @@ use Rattle.ec_law_causes.proofs.Reading.{only_read}
 use Rattle.ec_law_causes.proofs.Rounds.{tried_same}
 use Rattle.ec_law_causes.proofs.Stat.{not_dir}
 use Rattle.ec_write.specs.During.{IsReadingOf}
-use Rattle.ec_law_causes.proofs.Write.{FirstOk, HasRead, HereReads, HereVotes, HereWrite, IsPlaced, Later, LastOk, PreOk, Short, Writable, apart, asked_in, first_at, last_at, many, opened_causes, read_first, read_last, reads_begin, reads_stay, starts_go, starts_say, to_write, unlocked, wants_first, wants_last, was_read, windows, writes_stay}
+use Rattle.ec_law_causes.proofs.Write.{FirstOk, HasRead, HereReads, HereVotes, HereWrite, IsPlaced, Later, LastOk, PreOk, Short, Writable, apart, asked_in, first_at, last_at, many, opened_causes, read_first, read_last, reads_begin, reads_stay, starts_go, starts_say, to_write, wants_first, wants_last, was_read, writes_stay}
 
 -- what follows the Queries
 

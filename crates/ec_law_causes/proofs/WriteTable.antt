@@ -26,7 +26,7 @@ use Rattle.ec_write.specs.declared.stage.WriteStage.{WriteStage}
 use Rattle.ec_write.specs.declared.stage.WriteStage.TheVariants.{Opens as OpensAt, Votes, Reads, Writes}
 use Rattle.ec_law_causes.specs.Causes.{write_causes}
 use Rattle.ec_law_causes.specs.Counted.{number}
-use Rattle.ec_law_causes.proofs.Along.{IsKept, NonePast, Tells}
+use Rattle.ec_law_causes.proofs.Along.{IsKept, NonePast, Tells, unlocked, windows}
 use Rattle.ec_law_causes.proofs.BallotSteps.{clear_late, clear_members, no_short, post_ends, post_late, post_members, post_stays, pre_ends, pre_members}
 use Rattle.ec_law_causes.proofs.Members.{AsksMembers, HasMembers, PhaseOver, ends, members_more, members_over, members_unlocked}
 use Rattle.ec_law_causes.proofs.Openings.{opening_here}
@@ -37,7 +37,7 @@ use Rattle.ec_law_causes.proofs.Reading.{here_joined}
 use Rattle.ec_txn.proofs.BallotSends.{version_in}
 use Rattle.ec_write.specs.During.{IsWritingOf}
 use Rattle.ec_law_causes.proofs.Members.{AreBetween}
-use Rattle.ec_law_causes.proofs.Write.{HasRead, HereVotes, HereWrite, Later, asked_in, opened_causes, reads_stay, starts_go, starts_say, to_write, unlocked, wants_first, wants_last, was_read, windows, writes_stay}
+use Rattle.ec_law_causes.proofs.Write.{HasRead, HereVotes, HereWrite, Later, asked_in, opened_causes, reads_stay, starts_go, starts_say, to_write, wants_first, wants_last, was_read, writes_stay}
 use Rattle.ec_law_causes.proofs.WriteSteps.{only_write, pre_next, query_goes, query_says, reads_go, reads_say}
 
 go_when : (t : Bool) (p q : WriteStage) (answer : Answer) → Go q ≡ cond t (Go p) (Say answer) → (t ≡ true) × (q ≡ p)

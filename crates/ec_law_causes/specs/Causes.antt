@@ -1,24 +1,29 @@
 -- The cause of each answer of a call, by what the call began with and what its bricks were asked and replied.
-use Rattle.std.specs.Prelude.{◌≡◌, ◌⊎◌, ℕ, ◌+◌, ◌-◌, ◌/◌, ◌^◌, ◌<◌, ◌≤◌, ◌==◌, Bool, true, false, min, Some, List, length}
+use Rattle.std.specs.Prelude.{◌≡◌, ◌⊎◌, ℕ, ◌+◌, ◌-◌, ◌/◌, ◌^◌, ◌<◌, ◌≤◌, ◌==◌, Bool, true, false, min, Some, None, List, length}
 use Rattle.ec_attr.specs.Bricks.{count_below}
 use Rattle.ec_attr.specs.declared.attr.Attr.{Attr as AttrOf}
 use Rattle.ec_attr.specs.declared.head.Head.{Head}
+use Rattle.ec_attr.specs.declared.kind.Child.{Child as ChildOf}
 use Rattle.ec_attr.specs.declared.kind.Kind.{Kind}
-use Rattle.ec_attr.specs.declared.kind.Kind.TheVariants.{Dir}
+use Rattle.ec_attr.specs.declared.kind.Kind.TheVariants.{Dir, File}
 use Rattle.ec_conduct.specs.Account.{Account}
 use Rattle.ec_conduct.specs.Children.{is_absent}
 use Rattle.ec_conduct.specs.Given.{Given, bricks_of, quorum_of}
+use Rattle.ec_entry.specs.Children.{is_dir_in}
+use Rattle.ec_entry.specs.Make.{child_of}
+use Rattle.ec_entry.specs.Named.{IsLowest, IsOther, Value}
+use Rattle.ec_entry.specs.Paging.{Entries}
 use Rattle.ec_read.specs.Range.{end_of}
 use Rattle.ec_read.specs.Read.{len_in, off_in}
 use Rattle.ec_stripe.specs.Span.{stripe_bytes}
 use Rattle.ec_wire.specs.declared.answer.Answer.{Answer}
-use Rattle.ec_wire.specs.declared.answer.Answer.TheVariants.{Attr, Bytes, Child, Gone, IsDir, Limit, Names, NoSuch, Size, TooBig, TooLong}
+use Rattle.ec_wire.specs.declared.answer.Answer.TheVariants.{Attr, Bytes, Child, Exists, Gone, IsDir, Limit, Names, NoName, NoSuch, NotDir, Size, Spent, Split, TooBig, TooLong}
 use Rattle.ec_wire.specs.declared.op.Op.{Op}
-use Rattle.ec_wire.specs.declared.op.Op.TheVariants.{Read, Stat, GetAttr, SetAttr, Truncate, Write}
-use Rattle.ec_wire.specs.declared.phase.Phase.TheVariants.{Lock, Query, Pre, Write as WritePhase, Trim, Post}
+use Rattle.ec_wire.specs.declared.op.Op.TheVariants.{Create, GetAttr, Lookup, Mkdir, Read, Readdir, SetAttr, Stat, Truncate, Unlink, Write}
+use Rattle.ec_wire.specs.declared.phase.Phase.TheVariants.{Entry, Lock, Make, Name, Query, Pre, Write as WritePhase, Trim, Post}
 use Rattle.ec_write.specs.Range.{count_stripes, data_of, first_stripe, head_of, off_of, reads_first, reads_last, told_end}
 use Rattle.ec_write.specs.Truncate.{to_of}
-use Rattle.ec_law_causes.specs.Counted.{FallsShort, LacksChunks, Windows, head_in, reply_in, windows_of}
+use Rattle.ec_law_causes.specs.Counted.{FallsShort, LacksChunks, LacksPages, Windows, head_in, named_in, number_named, reply_in, windows_of}
 
 -- The causes of a call are checked in order: where one holds it tells the answer, and else the later ones do.
 abbrev pub Else : (Answer → Type 0) → (Answer → Type 0) → Answer → Type 0
@@ -105,6 +110,39 @@ TailFallsShort op given w answer = (head : Head) × (head_in given w ≡ Some he
 abbrev pub IsSize : Answer → Type 0
 IsSize answer = (size : ℕ) × (answer ≡ Size size)
 
+-- No K bricks of the group replied alike of the name. The answer says the reply of the lowest brick that replied, and that of the
+-- lowest whose reply is another one.
+abbrev pub IsSplit : Given → Windows → Answer → Type 0
+IsSplit given w answer = ((value : Value) → number_named given w value < quorum_of given) × (a b : Value) × IsLowest (named_in given w) a × IsOther (named_in given w) a b × (answer ≡ Split a b)
+
+-- K bricks replied that there is no such name
+abbrev pub HasNoName : Given → Windows → Answer → Type 0
+HasNoName given w answer = (quorum_of given ≤ number_named given w None) × (answer ≡ NoName)
+
+-- K bricks replied that the name leads to this child, which the answer says
+abbrev pub LeadsTo : (ChildOf → Answer) → Given → Windows → Answer → Type 0
+LeadsTo says given w answer = (child : ChildOf) × (quorum_of given ≤ number_named given w (Some child)) × (answer ≡ says child)
+
+-- a brick of the group replied that the name leads to a directory, whatever the others did
+abbrev pub NamesDir : Given → Windows → Answer → Type 0
+NamesDir given w answer = (x : ℕ) × (x < bricks_of given) × (is_dir_in (named_in given w x) ≡ true) × (answer ≡ IsDir)
+
+-- the answer says that the name is gone
+abbrev pub IsGone : Answer → Type 0
+IsGone answer = answer ≡ Gone
+
+-- the answer says names
+abbrev pub IsNames : Answer → Type 0
+IsNames answer = (list : Entries) × (answer ≡ Names list)
+
+-- the gfid that a create or mkdir took as it began is above 2^96
+abbrev pub IsSpent : Given → Answer → Type 0
+IsSpent given answer = (2 ^ 96 < given.child) × (answer ≡ Spent)
+
+-- the answer says the child that the call is to make, under that gfid
+abbrev pub SaysChild : Given → Answer → Type 0
+SaysChild given answer = answer ≡ Child (child_of given)
+
 -- every call begins with the locks and the Queries
 abbrev pub Opens : Given → Windows → (Answer → Type 0) → Answer → Type 0
 Opens given w later = Else (FallsShort given w Lock) (Else (FallsShort given w Query) (Else (HasNoRecord given w) later))
@@ -132,6 +170,23 @@ truncate_causes op given w =
     Else (CutsTooFar op) (Opens given w (Else (IsOfKind Dir IsDir given w) (Else (PassesLimit given w) (Else (FallsShort given w Pre) (Else (LacksTail op given w)
     (Else (TailFallsShort op given w) (Else (FallsShort given w Trim) (Else (FallsShort given w Post) IsSize))))))))
 
+abbrev pub lookup_causes : Given → Windows → Answer → Type 0
+lookup_causes given w = Opens given w (Else (IsOfKind File NotDir given w) (Else (FallsShort given w Name) (Else (IsSplit given w) (Else (HasNoName given w) (LeadsTo Child given w)))))
+
+-- a create or mkdir
+abbrev pub make_causes : Given → Windows → Answer → Type 0
+make_causes given w =
+    Else (IsSpent given) (Opens given w (Else (IsOfKind File NotDir given w) (Else (FallsShort given w Name) (Else (IsSplit given w) (Else (LeadsTo Exists given w) (Else (PassesLimit given w) (Else (FallsShort given w Pre)
+    (Else (FallsShort given w Make) (Else (FallsShort given w Entry) (Else (FallsShort given w Post) (SaysChild given)))))))))))
+
+abbrev pub unlink_causes : Given → Windows → Answer → Type 0
+unlink_causes given w =
+    Opens given w (Else (IsOfKind File NotDir given w) (Else (FallsShort given w Name) (Else (NamesDir given w) (Else (HasNoName given w) (Else (PassesLimit given w) (Else (FallsShort given w Pre) (Else (FallsShort given w Entry)
+    (Else (FallsShort given w Post) IsGone))))))))
+
+abbrev pub readdir_causes : Given → Windows → Answer → Type 0
+readdir_causes given w = Opens given w (Else (IsOfKind File NotDir given w) (Else (LacksPages given w) IsNames))
+
 -- answers that say that a call did what it was to do
 abbrev pub IsSuccess : Answer → Type 0
 IsSuccess (Size size) = Unit {0}
@@ -142,16 +197,7 @@ IsSuccess (Names list) = Unit {0}
 IsSuccess Gone = Unit {0}
 IsSuccess answer = ⊥
 
--- the calls whose causes are said here
-abbrev pub IsCovered : Op → Type 0
-IsCovered (Stat g) = Unit {0}
-IsCovered (GetAttr g) = Unit {0}
-IsCovered (SetAttr g attr) = Unit {0}
-IsCovered (Read g off len via) = Unit {0}
-IsCovered (Write g off bytes) = Unit {0}
-IsCovered (Truncate g to) = Unit {0}
-IsCovered op = ⊥
-
+-- the causes of a built call; calls that are not built have none
 abbrev pub causes : Op → Given → Windows → Answer → Type 0
 causes (Stat g) given w = stat_causes given w
 causes (GetAttr g) given w = getattr_causes given w
@@ -159,6 +205,11 @@ causes (SetAttr g attr) given w = setattr_causes given w
 causes (Read g off len via) given w = read_causes (Read g off len via) given w
 causes (Write g off bytes) given w = write_causes (Write g off bytes) given w
 causes (Truncate g to) given w = truncate_causes (Truncate g to) given w
+causes (Lookup g name) given w = lookup_causes given w
+causes (Create g name) given w = make_causes given w
+causes (Mkdir g name) given w = make_causes given w
+causes (Unlink g name) given w = unlink_causes given w
+causes (Readdir g) given w = readdir_causes given w
 causes op given w = λ answer. ⊥
 
 -- The account of a call has the cause of this answer.

@@ -1,13 +1,15 @@
 -- What the bricks were asked in each phase of a call, what they replied, and the number that the phase counts.
-use Rattle.std.specs.Prelude.{◌≡◌, ◌⊎◌, ℕ, ◌<◌, Bool, true, false, ◌&&◌, Option, List}
+use Rattle.std.specs.Prelude.{◌≡◌, ◌⊎◌, ℕ, ◌+◌, ◌<◌, ◌≤◌, Bool, true, false, cond, ◌&&◌, is_some, Option, None, List, [], ◌∷◌}
 use Rattle.ec_attr.specs.Bricks.{count_below}
 use Rattle.ec_attr.specs.declared.head.Head.{Head}
 use Rattle.ec_conduct.specs.Account.{Account, Exchange, at, is_granted}
-use Rattle.ec_conduct.specs.Done.{failed_none, is_any, is_done, reply_to, tried}
+use Rattle.ec_conduct.specs.Done.{failed_none, is_any, is_done, is_names, reply_to, tried}
 use Rattle.ec_conduct.specs.Given.{Given, bricks_of, quorum_of}
 use Rattle.ec_conduct.specs.Group.{Heads, group_head, is_good}
 use Rattle.ec_conduct.specs.Phases.{is_of, is_read_from, is_via, most_alike, via_of}
 use Rattle.ec_conduct.specs.Standing.{head_of}
+use Rattle.ec_entry.specs.Named.{Value, says, value_in}
+use Rattle.ec_entry.specs.Paging.{page_in}
 use Rattle.ec_txn.specs.ReadPhase.{has_chunks}
 use Rattle.ec_txn.specs.Rounds.{subject}
 use Rattle.ec_wire.specs.declared.answer.Answer.{Answer}
@@ -15,8 +17,9 @@ use Rattle.ec_wire.specs.declared.answer.Answer.TheVariants.{NoQuorum}
 use Rattle.ec_wire.specs.declared.op.Op.{Op}
 use Rattle.ec_wire.specs.declared.op.Op.TheVariants.{Read as ReadOp}
 use Rattle.ec_wire.specs.declared.phase.Phase.{Phase}
-use Rattle.ec_wire.specs.declared.phase.Phase.TheVariants.{Lock, Query, Read}
+use Rattle.ec_wire.specs.declared.phase.Phase.TheVariants.{Lock, Name, Names, Query, Read}
 use Rattle.ec_wire.specs.declared.reply.Reply.{Reply}
+use Rattle.ec_wire.specs.declared.request.Request.{Request}
 use Rattle.ec_write.specs.Stripes.{has_chunk}
 
 -- By brick, what it was asked on the gfid of a call since the locks, the last first: each request with the reply to it, or with
@@ -44,9 +47,12 @@ is_grouped given w x = is_good (bricks_of given) (quorum_of given) (heads_in w) 
 abbrev pub head_in : Given → Windows → Option Head
 head_in given w = group_head (bricks_of given) (quorum_of given) (heads_in w)
 
--- Which replies count: Granted in `lock`, and in the phases that change something those that refuse nothing.
+-- Which replies count: Granted in `lock`, a child or none in `name`, a page in `names`, and in the phases that change something
+-- those that refuse nothing.
 abbrev pub counts : Phase → Option Reply → Bool
 counts Lock reply = is_granted reply
+counts Name reply = is_some (value_in reply)
+counts Names reply = is_some (page_in reply)
 counts phase reply = is_done reply
 
 -- The number that a phase counts: the bricks that granted the lock; the largest set of bricks that answered the Queries alike, be
@@ -93,3 +99,23 @@ pub record LacksChunks (given : Given) (w : Windows) (first : ℕ) (answer : Ans
   pub asked : number_replied given w first < quorum_of given → (x : ℕ) → x < bricks_of given → may_read given w x ≡ true → (tried (is_read_from first) (w x) ≡ true) ⊎ (failed_none is_any (w x) ≡ false)
   pub few : number_read given w first < quorum_of given
   pub answer_is : answer ≡ NoQuorum Read (number_read given w first)
+
+-- what each brick of the good group replied of the name: a child, or that there is none
+abbrev pub named_in : Given → Windows → ℕ → Option Value
+named_in given w x = cond (is_grouped given w x) (value_in (reply_in Name w x)) None
+
+-- how many of them replied this
+abbrev pub number_named : Given → Windows → Value → ℕ
+number_named given w value = count_below (bricks_of given) (λ x. says value (named_in given w x))
+
+-- how many such requests are over
+abbrev pub times : (Request → Bool) → List Exchange → ℕ
+times p [] = 0
+times p (e ∷ es) = cond (p e.request) (times p es + 1) (times p es)
+
+-- Fewer than K bricks gave a page in the last round of `names`. A brick that fails in one round isn't asked in the next, so that
+-- what each brick of the group replied last is what counts. Each was asked in as many rounds as any other, or failed in some
+-- request.
+pub record LacksPages (given : Given) (w : Windows) (answer : Answer) : Type 0 where
+  pub short : FallsShort given w Names answer
+  pub rounds : (x y : ℕ) → x < bricks_of given → y < bricks_of given → is_grouped given w x ≡ true → is_grouped given w y ≡ true → (times is_names (w y) ≤ times is_names (w x)) ⊎ (failed_none is_any (w x) ≡ false)

@@ -19,14 +19,14 @@ use Rattle.ec_wire.specs.declared.answer.Answer.{Answer}
 use Rattle.ec_wire.specs.declared.entry.Entry.{Entry}
 use Rattle.ec_wire.specs.declared.entry.Entry.TheVariants.{Answered}
 use Rattle.ec_law_calls.specs.World.{IsLogged}
-use Rattle.ec_law_causes.specs.Causes.{HasCause, IsCovered, IsSuccess}
+use Rattle.ec_law_causes.specs.Causes.{HasCause, IsSuccess}
 
 -- Of the own entries that a call stands for, where it is answered in them.
 pub record CallCauseLaws (stands : Ctx → Given → AnyCall → List Own → Type 0) : Type 0 where
   -- its account has the cause of its answer
-  pub cause : (x : Ctx) (given : Given) (call : AnyCall) (es : List Own) (answer : Answer) → IsCovered given.op → stands x given call es → (account given es).answer ≡ Some answer → HasCause (account given es) answer
+  pub cause : (x : Ctx) (given : Given) (call : AnyCall) (es : List Own) (answer : Answer) → stands x given call es → (account given es).answer ≡ Some answer → HasCause (account given es) answer
   -- and of no other answer, but that which success it says may be free
-  pub only : (x : Ctx) (given : Given) (call : AnyCall) (es : List Own) (answer other : Answer) → IsCovered given.op → stands x given call es → (account given es).answer ≡ Some answer → HasCause (account given es) other
+  pub only : (x : Ctx) (given : Given) (call : AnyCall) (es : List Own) (answer other : Answer) → stands x given call es → (account given es).answer ≡ Some answer → HasCause (account given es) other
       → (other ≡ answer) ⊎ (IsSuccess other × IsSuccess answer)
 
 -- The call that was answered in this log has, by what it began with and its own entries there, the cause of its answer.
@@ -34,7 +34,7 @@ pub record HasCauseInLog (config : Config) (bricks : ℕ → Brick) (tree : Tree
   pub given : Given
   pub begun : (books config.geometry nothing_left log (fresh bricks) (opening tree next) no_books).given call ≡ Some given
   pub answered : (account given ((books config.geometry nothing_left log (fresh bricks) (opening tree next) no_books).own call)).answer ≡ Some answer
-  pub cause : IsCovered given.op → HasCause (account given ((books config.geometry nothing_left log (fresh bricks) (opening tree next) no_books).own call)) answer
+  pub cause : HasCause (account given ((books config.geometry nothing_left log (fresh bricks) (opening tree next) no_books).own call)) answer
 
 -- Of the log of every world that is as what has come of its log says, over whatever bricks.
 pub record WorldCauseLaws (stands : Ctx → Given → AnyCall → List Own → Type 0) (by_table : Ctx → Given → List Own → Type 0) : Type 0 where

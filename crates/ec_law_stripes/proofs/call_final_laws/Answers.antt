@@ -1,0 +1,52 @@
+use Rattle.std.proofs.Common.{List}
+use Rattle.ec_attr.specs.declared.kind.LockKind.{LockKind}
+use Rattle.ec_attr.specs.declared.kind.LockKind.TheVariants.{Shared, Exclusive}
+use Rattle.ec_calls.specs.contracts.any.AnyCallConduct.TheImpl.{ghosts as impl}
+use Rattle.ec_calls.specs.declared.any.AnyCall.{AnyCall}
+use Rattle.ec_calls.specs.declared.any.AnyCall.TheVariants.{GetAttr, Lookup, Make, Read, Readdir, SetAttr, Stat, Truncate, Unlink, Write}
+use Rattle.ec_conduct.specs.Done.{is_lock}
+use Rattle.ec_conduct.specs.Given.{Given}
+use Rattle.ec_conduct.specs.Own.{Own}
+use Rattle.ec_conduct.specs.Table.{IsByTable}
+use Rattle.std.proofs.Common.{Option, refl}
+use Rattle.ec_entry.specs.GetAttr.{getattr_table}
+use Rattle.ec_entry.specs.Lookup.{lookup_table}
+use Rattle.ec_entry.specs.Make.{make_table}
+use Rattle.ec_entry.specs.Readdir.{readdir_table}
+use Rattle.ec_entry.specs.SetAttr.{setattr_table}
+use Rattle.ec_entry.specs.Unlink.{unlink_table}
+use Rattle.ec_read.specs.Read.{read_table}
+use Rattle.ec_read.specs.Stat.{stat_table}
+use Rattle.ec_txn.specs.Tables.{Begins, Goes, Table}
+use Rattle.ec_txn.specs.declared.ctx.Ctx.{Ctx}
+use Rattle.ec_write.specs.Truncate.{truncate_table}
+use Rattle.ec_write.specs.Write.{write_table}
+use Rattle.ec_law_calls.specs.Parts.{GoesInOrder}
+use Rattle.ec_law_calls.proofs.ChildTables.{make_order, unlink_order}
+use Rattle.ec_law_calls.proofs.NameTables.{getattr_order, lookup_order, readdir_order, setattr_order}
+use Rattle.ec_law_calls.proofs.ReadTables.{read_order, stat_order}
+use Rattle.ec_law_calls.proofs.WriteTables.{truncate_order, write_order}
+use Rattle.ec_law_stripes.specs.Finals.{AsksOff}
+use Rattle.ec_law_stripes.proofs.FinalEnding.{by_table}
+use Rattle.ec_law_stripes.proofs.FinalTables.{no_asks}
+use Rattle.ec_law_stripes.proofs.call_final_laws.Goals as goal
+
+-- own entries by a table that goes in order
+ordered : {P : Type 0} (kind : LockKind) (t : Table P) → GoesInOrder kind t → (given : Given) (es : List Own) (stage : Option P) → IsByTable (Begins t) (Goes t) given es stage → AsksOff is_lock es
+ordered kind t order given es stage by = by_table is_lock (λ g n. refl) t (no_asks kind t order) given es stage by
+
+-- A call of each kind goes by its table.
+asks_of : (x : Ctx) (given : Given) (call : AnyCall) (es : List Own) → impl.stands x given call es → AsksOff is_lock es
+asks_of x given (Stat own) es s = ordered Shared stat_table stat_order given es own.stage s.by_table
+asks_of x given (Lookup own) es s = ordered Shared lookup_table lookup_order given es own.stage s.by_table
+asks_of x given (GetAttr own) es s = ordered Shared getattr_table getattr_order given es own.stage s.by_table
+asks_of x given (SetAttr own) es s = ordered Exclusive setattr_table setattr_order given es own.stage s.by_table
+asks_of x given (Read own) es s = ordered Shared (read_table x) (read_order x) given es own.stage s.by_table
+asks_of x given (Write own) es s = ordered Exclusive (write_table x) (write_order x) given es own.stage s.by_table
+asks_of x given (Make own) es s = ordered Exclusive make_table make_order given es own.stage s.by_table
+asks_of x given (Readdir own) es s = ordered Shared readdir_table readdir_order given es own.stage s.by_table
+asks_of x given (Unlink own) es s = ordered Exclusive unlink_table unlink_order given es own.stage s.by_table
+asks_of x given (Truncate own) es s = ordered Exclusive (truncate_table x) (truncate_order x) given es own.stage s.by_table
+
+pub returns : goal.returns
+returns c = record { no_asks = asks_of }

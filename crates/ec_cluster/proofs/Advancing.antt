@@ -3,7 +3,7 @@ use Rattle.std.proofs.Common.{◌≡◌, ℕ, ◌<◌, true, false, not, Option,
 use Rattle.std.specs.Prelude.{is_some, Result, Ok, Err, OnOk}
 use Rattle.ec_brick.specs.Fit.{IsFit}
 use Rattle.ec_brick.specs.declared.brick.Brick.{Brick}
-use Rattle.ec_history.specs.IsRun.{MayHear}
+use Rattle.ec_history.specs.IsRun.{AreChunks, MayHear}
 use Rattle.ec_history.specs.Run.{Net, Owed, after, heard, heard_by}
 use Rattle.ec_store.specs.Put.{put}
 use Rattle.ec_store.specs.Records.{Records}
@@ -70,13 +70,13 @@ noted s log e h kind is =
       );
     }
 
-pub sends_request : (s t : Cluster) (x : Message) (q : Request) → IsSound s → x.body ≡ ToBrick q → x.brick < size_of s → IsFit q → Sends s t x → Advances (IsOfClient x.call x.client) s t (Sent x ∷ [])
-sends_request s t x q h body to fit k = record {
+pub sends_request : (s t : Cluster) (x : Message) (q : Request) → IsSound s → x.body ≡ ToBrick q → x.brick < size_of s → IsFit q → AreChunks q → Sends s t x → Advances (IsOfClient x.call x.client) s t (Sent x ∷ [])
+sends_request s t x q h body to fit chunks k = record {
   log = k.log;
   size = ap (λ (l : List Brick). length l) k.bricks;
   sound = sound_as _ _ _ _ _ _ _ _ _ _ k.bricks k.flies k.next k.log k.places (sound_sent (bricks_of s) (flight s) (next_of s) (log_of s) (places_of s) x h k.limit k.no to (subst (IsFitBody (said_in (log_of s)) x) (sym body) fit));
   runs = λ records m j given. (
-    (may_ask (bricks_of s) (flight s) (next_of s) (log_of s) records (size_of s) m x q j k.no body to given, tt),
+    (may_ask (bricks_of s) (flight s) (next_of s) (log_of s) records (size_of s) m x q j k.no body to chunks given, tt),
     matches_as _ _ _ _ _ _ _ _ records [] (after m (Sent x)) k.bricks k.flies k.next k.log (matches_ask (bricks_of s) (flight s) (next_of s) (log_of s) records m x q j k.no body),
   );
 }

@@ -4,7 +4,7 @@ use Rattle.std.proofs.lemmas.Option.{slice_get_cases, slice_get_within}
 use Rattle.std.specs.Prelude.{is_some, slice_get}
 use Rattle.ec_brick.specs.State.{State}
 use Rattle.ec_brick.specs.declared.brick.Brick.{Brick}
-use Rattle.ec_history.specs.IsRun.{IsFirstOwed, IsOwed, MayAsk, MaySay, May}
+use Rattle.ec_history.specs.IsRun.{AreChunks, IsFirstOwed, IsOwed, MayAsk, MaySay, May}
 use Rattle.ec_history.specs.Run.{Net, Owed, after, owed_after}
 use Rattle.ec_store.specs.Put.{put}
 use Rattle.ec_store.specs.Records.{Records}
@@ -47,9 +47,9 @@ module _ (all : List Brick) (flying : ℕ → Option Message) (number : ℕ) (lo
   matches_reply o owed m x re reply h num body = matches_sent (o ∷ owed) owed m x h num (λ k. owed_after (h.owes k) (body k))
 
   -- a client's request
-  pub may_ask : (n : ℕ) (m : Net) (x : Message) (q : Request) → MatchesOf all flying number log records [] m → x.no ≡ number → x.body ≡ ToBrick q → x.brick < n → IsOfClient x.call x.client m → May n m (Sent x)
-  may_ask n m x q h num body b c =
-      let asks : MayAsk n m x = record { asker = c.asker; made = c.made; of_client = c.of_client; lives = c.lives; to = b; nothing_owed = h.owes } in
+  pub may_ask : (n : ℕ) (m : Net) (x : Message) (q : Request) → MatchesOf all flying number log records [] m → x.no ≡ number → x.body ≡ ToBrick q → x.brick < n → AreChunks q → IsOfClient x.call x.client m → May n m (Sent x)
+  may_ask n m x q h num body b chunks c =
+      let asks : MayAsk n m x q = record { asker = c.asker; made = c.made; of_client = c.of_client; lives = c.lives; to = b; nothing_owed = h.owes; chunks = chunks } in
       (num ∙ sym h.next, subst (MaySay n m x) (sym body) asks)
 
   pub matches_ask : (m : Net) (x : Message) (q : Request) → MatchesOf all flying number log records [] m → x.no ≡ number → x.body ≡ ToBrick q → MatchesOf all (with_message flying number (Some x)) (number + 1) (log ++ Sent x ∷ []) records [] (after m (Sent x))

@@ -6,6 +6,7 @@
 // the log has the entries so far and the stores stand as these say.
 #![tactic(auto)]
 
+mod chunks;
 mod cluster;
 mod executing;
 mod granting;

@@ -7,6 +7,7 @@ ghost use Rattle.ec_cluster.specs.Views.{next_of, size_of};
 ghost use Rattle.ec_wire.specs.declared.entry.Entry.TheVariants.{Sent};
 ghost use Rattle.ec_wire.specs.declared.message.Body.TheVariants.{ToBrick};
 
+use crate::chunks::are_chunks;
 use crate::cluster::Cluster;
 use ec_wire::{Body, Entry, Message, Request};
 use std::alloc::AllocError;
@@ -60,6 +61,7 @@ impl Cluster {
         ensures sent { OnOk result (Sends self.old self.new (record { no = next_of self.old; call = call; client = client; brick = brick; body = ToBrick request })) }
         ensures err { OnErr result (IsUnmoved self.old self.new) }
     {
+        are_chunks(&request);
         self.put(call, client, brick, Body::ToBrick(request))
     }
 }

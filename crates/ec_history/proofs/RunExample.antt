@@ -19,7 +19,7 @@ pub a_stat_is_a_run : AStatIsARun
 a_stat_is_a_run = (
   (refl, refl, refl),
   (
-    (refl, record { asker = who; made = refl; of_client = refl; lives = refl; to = lit< tt; nothing_owed = refl }),
+    (refl, record { asker = who; made = refl; of_client = refl; lives = refl; to = lit< tt; nothing_owed = refl; chunks = tt }),
     (
       record { message = message 1 0 (ToBrick (Ask two Inode Shared)); request = Ask two Inode Shared; at = record { said = refl; body = refl; flying = refl; up = refl; nothing_owed = refl }; read = refl; fault = refl },
       (
@@ -27,13 +27,13 @@ a_stat_is_a_run = (
         (
           record { message = message 2 0 (ToClient 1 Granted); re = 1; reply = Granted; said = refl; body = refl; flying = refl; lives = refl; nothing_owed = refl },
           (
-            (refl, record { asker = who; made = refl; of_client = refl; lives = refl; to = lit< tt; nothing_owed = refl }),
+            (refl, record { asker = who; made = refl; of_client = refl; lives = refl; to = lit< tt; nothing_owed = refl; chunks = tt }),
             (
               (refl, refl),
               (
                 record { message = message 3 1 (ToBrick (Ask two Inode Shared)); said = refl; calling = record { asker = who; made = refl; of_client = refl; unanswered = refl; lives = refl }; waits = refl; nothing_owed = refl },
                 (
-                  (refl, record { asker = who; made = refl; of_client = refl; lives = refl; to = lit< tt; nothing_owed = refl }),
+                  (refl, record { asker = who; made = refl; of_client = refl; lives = refl; to = lit< tt; nothing_owed = refl; chunks = tt }),
                   (
                     record { message = message 4 0 (ToBrick (Query two 1)); request = Query two 1; at = record { said = refl; body = refl; flying = refl; up = refl; nothing_owed = refl }; read = refl; fault = refl },
                     (
@@ -41,7 +41,7 @@ a_stat_is_a_run = (
                       (
                         record { message = message 5 0 (ToClient 4 (Head (head_of File 3 1024))); re = 4; reply = Head (head_of File 3 1024); said = refl; body = refl; flying = refl; lives = refl; nothing_owed = refl },
                         (
-                          (refl, record { asker = who; made = refl; of_client = refl; lives = refl; to = lit< tt; nothing_owed = refl }),
+                          (refl, record { asker = who; made = refl; of_client = refl; lives = refl; to = lit< tt; nothing_owed = refl; chunks = tt }),
                           (
                             (1, record { asker = who; made = refl; of_client = refl; unanswered = refl; lives = refl }, refl),
                             (

@@ -1,6 +1,8 @@
 -- When a log is a run. What clients send is free in it; the conduct of the calls is said apart.
 use Rattle.std.specs.Prelude.{◌≡◌, ℕ, ◌+◌, ◌-◌, ◌^◌, ◌<◌, ◌≤◌, Bool, true, false, min, is_some, Option, Some, List, [], ◌∷◌, length}
 use Rattle.ec_attr.specs.Bricks.{count_below}
+use Rattle.ec_field.specs.Chunk.{IsChunk}
+use Rattle.ec_field.specs.Code.{chunk_at}
 use Rattle.ec_store.specs.Records.{Records}
 use Rattle.ec_wire.specs.declared.entry.Entry.{Entry}
 use Rattle.ec_wire.specs.declared.entry.Entry.TheVariants.{Called, Sent, Executed, Heard, Lost, GivenUp, Stopped, Returned, Cut, Died, Yielded, Torn, Answered, Replaced}
@@ -35,17 +37,23 @@ pub record IsCalling (m : Net) (call client : ℕ) : Type 0 where
   pub unanswered : m.answered call ≡ false
   pub lives : m.dead client ≡ false
 
+-- each chunk of a write is one, of 512 bytes
+abbrev pub AreChunks : Request → Type 0
+AreChunks (WriteChunks g n first chunks) = (i : ℕ) → i < length chunks → IsChunk (chunk_at chunks i)
+AreChunks q = Unit {0}
+
 -- A client sends for a call that it made; a Release it sends also after the answer.
-pub record MayAsk (n : ℕ) (m : Net) (msg : Message) : Type 0 where
+pub record MayAsk (n : ℕ) (m : Net) (msg : Message) (q : Request) : Type 0 where
   pub asker : Asker
   pub made : m.asker msg.call ≡ Some asker
   pub of_client : asker.client ≡ msg.client
   pub lives : m.dead msg.client ≡ false
   pub to : msg.brick < n
   pub nothing_owed : m.owed ≡ []
+  pub chunks : AreChunks q
 
 abbrev pub MaySay : ℕ → Net → Message → Body → Type 0
-MaySay n m msg (ToBrick q) = MayAsk n m msg
+MaySay n m msg (ToBrick q) = MayAsk n m msg q
 MaySay n m msg (ToClient re reply) = IsFirstOwed m.owed msg re reply
 
 abbrev pub is_fault : Says → Bool

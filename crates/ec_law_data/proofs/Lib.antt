@@ -4,6 +4,7 @@ pub mod Recording
 pub mod Leaving
 pub mod Following
 pub mod Entries
+pub mod Chunks
 pub mod Logs
 pub mod Forms
 pub mod Guards

@@ -9,6 +9,7 @@ use Rattle.ec_field.specs.Chunk.{IsChunk, element}
 use Rattle.ec_field.specs.Code.{IsCode, chunk_at, combined_element}
 use Rattle.ec_field.specs.Field.{product}
 use Rattle.ec_field.proofs.Sums.{sum_ext}
+use Rattle.ec_history.specs.IsRun.{AreChunks}
 use Rattle.ec_history.specs.Story.{is_among}
 use Rattle.ec_law_data.specs.Coding.{by_rows, code_byte}
 use Rattle.ec_law_data.specs.Forms.{byte_put, piece_of, stripes_written, zero_stripe}
@@ -21,7 +22,7 @@ use Rattle.ec_wire.specs.declared.op.Op.{Op}
 use Rattle.ec_wire.specs.declared.op.Op.TheVariants.{Write, Truncate}
 use Rattle.ec_wire.specs.declared.request.Request.{Request}
 use Rattle.ec_wire.specs.declared.request.Request.TheVariants.{WriteChunks, SetLength}
-use Rattle.ec_law_files.specs.Plans.{AreChunks, is_cut, is_written, value_of}
+use Rattle.ec_law_files.specs.Plans.{is_cut, is_written, value_of}
 use Rattle.ec_law_files.specs.Stripes.{CutsStripes, IsOwn, IsPut, Making, WritesStripes}
 use Rattle.ec_law_files.proofs.Planning.{cut_unwritten}
 

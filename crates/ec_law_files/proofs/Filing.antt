@@ -45,7 +45,7 @@ use Rattle.ec_law_files.proofs.Changing.{changes_put}
 use Rattle.ec_law_files.proofs.Entries.{sent_there}
 use Rattle.ec_law_files.specs.Filing.{HasFilePlan, AllChunks, AreCovered, AreRows, HaveFilePlans, PlansFirst, StripeFile, plan_of}
 use Rattle.ec_law_files.specs.Laws.{BodyMade, OwnMade}
-use Rattle.ec_law_files.specs.Plans.{AreChunks, AreOn, PutsOne, is_cut, is_written, HasPlan, IsFirst, ReadsOld, file_plan, form_by, wrote_any}
+use Rattle.ec_law_files.specs.Plans.{AreOn, PutsOne, is_cut, is_written, HasPlan, IsFirst, ReadsOld, file_plan, form_by, wrote_any}
 use Rattle.ec_law_files.specs.Stripes.{CutsStripes, EachSent, IsOwn, IsPut, Making, WritesStripes, puts_stripes, makes_stripes}
 use Rattle.ec_law_files.proofs.Planning.{post_quiet}
 use Rattle.ec_law_files.proofs.Plans.{file_plan_laws}
@@ -174,18 +174,6 @@ module _ (geometry : Geometry) (makings : ℕ → Making) (g : ℕ) (m : Net) (v
         (subst (λ (y : Geometry). x.brick < y.n) (sym same) lt)
         (subst (λ (y : Geometry). Rattle.ec_matrix.specs.Inverse.IsByteRow (quorum y) y.algorithm x.brick (rows x.brick)) (sym same) (are_rows x.brick lt)))
 
-    whole_chunks : (cs : List (List ℕ)) → ((i : ℕ) → i < length cs → IsChunk (chunk_at cs i)) → length (bytes_of cs) ≡ 512 * length cs
-    whole_chunks [] each = refl
-    whole_chunks (c ∷ cs) each =
-        let len : length c ≡ 512 = (each 0 (omega arith)).len in
-        let rest = whole_chunks cs (λ i lt. each (suc i) (omega (arith, lt))) in
-        let both : length (c ++ bytes_of cs) ≡ length c + length (bytes_of cs) = Rattle.std.proofs.Common.length-append c (bytes_of cs) in
-        omega (arith, len, rest, both)
-
-    whole : (q : Request) → AreChunks q → IsWhole q
-    whole (WriteChunks x n first cs) each = whole_chunks cs each
-    whole q each = tt
-
     message_coded : (i : ℕ) (o : Option Message) → m.said i ≡ o → (version : Option ℕ) (failed : Bool) → MessageCoded (of_file (quorum geometry) (by_rows (quorum geometry) rows)) g m v f o version failed
     message_coded i None is version failed = tt
     message_coded i (Some msg) is version failed = by msg.body refl
@@ -193,7 +181,7 @@ module _ (geometry : Geometry) (makings : ℕ → Making) (g : ℕ) (m : Net) (v
         by : (z : Body) → msg.body ≡ z → BodyCoded (of_file (quorum geometry) (by_rows (quorum geometry) rows)) g m v f msg z version failed
         by (ToClient re reply) body = tt
         by (ToBrick q) body = record {
-          whole = whole q (chunks i msg q is body);
+          whole = whole_request q (chunks i msg q is body);
           codes = λ did on granted done. subst (λ (j : ℕ). Codes (of_file (quorum geometry) (by_rows (quorum geometry) rows)) f g (v.of j) msg.brick q) (sym (known.messages.number i msg is).0) (codes i msg q is body on);
         }
 
@@ -203,7 +191,7 @@ module _ (geometry : Geometry) (makings : ℕ → Making) (g : ℕ) (m : Net) (v
       where
         by : (z : Body) → msg.body ≡ z → BodyWhole (of_file (quorum geometry) (by_rows (quorum geometry) rows)) z
         by (ToClient re reply) body = tt
-        by (ToBrick q) body = whole q (chunks i msg q is body)
+        by (ToBrick q) body = whole_request q (chunks i msg q is body)
 
     pub coded : (e : Entry) → EntryCoded (of_file (quorum geometry) (by_rows (quorum geometry) rows)) g m v f e
     coded (Executed i version failed) = message_coded i (m.said i) refl version failed

@@ -10,7 +10,7 @@ use Rattle.ec_conduct.specs.Given.{Given, quorum, quorum_of}
 use Rattle.ec_conduct.specs.Opened.{account}
 use Rattle.ec_conduct.specs.Standing.{changes_at, group_of}
 use Rattle.ec_history.specs.Accounts.{Books, Leaving, booked, no_books}
-use Rattle.ec_history.specs.IsRun.{May, MaySay}
+use Rattle.ec_history.specs.IsRun.{AreChunks, May, MaySay}
 use Rattle.ec_history.specs.Run.{Net, after, call_of, fresh}
 use Rattle.ec_history.specs.Story.{Story}
 use Rattle.ec_wire.specs.declared.entry.Entry.{Entry}
@@ -33,7 +33,7 @@ use Rattle.ec_law_turns.specs.Known.{Known}
 use Rattle.ec_law_turns.specs.Shown.{Shown}
 use Rattle.ec_matrix.specs.Inverse.{IsByteRow}
 use Rattle.ec_law_files.specs.Laws.{BodyMade, EntryMade, OwnMade}
-use Rattle.ec_law_files.specs.Plans.{AreChunks, AreOn, HasPlan, PutsOne, ReadsBytes, ReadsOld, file_plan, form_by}
+use Rattle.ec_law_files.specs.Plans.{AreOn, HasPlan, PutsOne, ReadsBytes, ReadsOld, file_plan, form_by}
 use Rattle.ec_law_files.specs.Stripes.{IsPut, Making, makes_stripes}
 
 -- plans for a file, and the machine of its stripes

@@ -10,6 +10,7 @@ use Rattle.ec_conduct.specs.Given.{Given, quorum_of}
 use Rattle.ec_conduct.specs.Standing.{changes_at}
 use Rattle.ec_field.specs.Chunk.{IsChunk}
 use Rattle.ec_field.specs.Code.{chunk_at}
+use Rattle.ec_history.specs.IsRun.{AreChunks}
 use Rattle.ec_history.specs.Story.{is_among}
 use Rattle.ec_law_data.specs.Coding.{by_rows}
 use Rattle.ec_law_data.specs.Forms.{Coder, Piece, Shape, file_form, is_data, of_file, stripes_written, zero_stripe}
@@ -74,11 +75,6 @@ PutsOne g (q ∷ qs) s = ((is_data g q ≡ true) × (stripes_written q s ≡ tru
 abbrev pub AreOn : ℕ → List Request → Type 0
 AreOn g [] = Unit {0}
 AreOn g (q ∷ qs) = (gfid_of q ≡ Some g) × AreOn g qs
-
--- each chunk of a write is one
-abbrev pub AreChunks : Request → Type 0
-AreChunks (WriteChunks g grant first chunks) = (i : ℕ) → i < length chunks → IsChunk (chunk_at chunks i)
-AreChunks r = Unit {0}
 
 -- The form of a file, of which each byte of a stripe is read by a function. A list of lists may have a number for a byte that is none,
 -- and its code has the low eight bits; so what is given at K bricks tells those bits alone.

@@ -1,4 +1,3 @@
-pub mod Each
 pub mod Writes
 pub mod Shapes
 pub mod Ends

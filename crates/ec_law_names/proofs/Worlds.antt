@@ -85,14 +85,14 @@ module _ (stands : Ctx → Given → AnyCall → List Own → Type 0) (by_table 
       order_all a given e = subst (λ (b : Books). KeepsOrder given (b.own a)) are_books (order stands by_table calls c (said_in (log_of s)) (ledger p) (logged_sees stands by_table config bricks tree next s c logged).seen.clients a given (ap (λ (b : Books). b.given a) are_books ∙ e))
 
   module _ (built : CallBuiltLaws stands) (flat : WorldFlatLaws stands by_table) (heads : WorldHeadLaws stands by_table) (names : NameLaws stands by_table) (flats : FlatNameLaws) (history : PlansAreHistory) (writes : WriteLaws) (shapes : ShapeLaw) where
-    module _ (config : Config) (records : ℕ → Records) (bricks : ℕ → Brick) (tree : Tree) (next g : ℕ) (s : Cluster) (c : Clients AnyCall) (start : IsStart config records bricks tree next) (logged : IsLogged stands by_table config bricks tree next s c) (es rest : List Entry) (parts : log_of s ≡ es ++ rest) (whole : EachRequest IsWhole es) (dir : (flat_after config es bricks tree next g).kind ≡ Some Dir) where
+    module _ (config : Config) (records : ℕ → Records) (bricks : ℕ → Brick) (tree : Tree) (next g : ℕ) (s : Cluster) (c : Clients AnyCall) (start : IsStart config records bricks tree next) (logged : IsLogged stands by_table config bricks tree next s c) (es rest : List Entry) (parts : log_of s ≡ es ++ rest) (dir : (flat_after config es bricks tree next g).kind ≡ Some Dir) where
       most : config.geometry.n < quorum config.geometry + quorum config.geometry
       most = let h = config.geometry.majority in omega (arith, h)
 
       named : AreNamed config records bricks tree next g nothing_left es
       named =
           let w = laws.in_order config bricks tree next s c logged es rest parts in
-          names.named writes shapes config records bricks tree next g s c start logged es rest parts whole
+          names.named writes shapes config records bricks tree next g s c start logged es rest parts
           (made_directory config records bricks tree next g es start w.is_run w.plain w.orderly (heads.one_kind config records bricks tree next g s c start logged es rest parts) dir)
 
       fit : AllPlans of_directory (NamePlan (quorum config.geometry) g) named.plans config.geometry g es (fresh bricks) (begun config records tree next g) (opening tree next) (directory_begun config records tree g)

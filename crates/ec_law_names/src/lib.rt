@@ -1,10 +1,8 @@
 // What the bricks of a world hold of its directories: the names and children of the flat files that the history of its log makes.
 //
 // `Laws` says it of the log of every world, with no plans of turns and no laws left open. `Built` says that a call is one of those
-// that are built. Nothing of these runs; `whole_log` goes through a log, by which it is known that its chunks have 512 bytes.
+// that are built. Nothing of these runs.
 #![tactic(auto)]
-
-mod whole;
 
 ghost use Rattle.ec_clients.specs.Calls.{tabled};
 ghost use Rattle.ec_law_names.specs.Built.{CallBuiltLaws};
@@ -18,7 +16,6 @@ use ec_law_parts::world_flat_laws;
 use ec_law_plans::{name_laws, planned_history};
 use ec_law_writes::write_guard_laws;
 use ec_txn::Conduct;
-pub use whole::{whole_entry, whole_log, whole_request};
 
 /// No call that is built is a rename, an rmdir or a scrub. It does nothing when it runs.
 pub fn call_built_laws()
@@ -26,7 +23,7 @@ pub fn call_built_laws()
 {}
 
 /// Let a cluster and its clients, which run built calls, be as what has come of the log says, and the log a run over bricks that
-/// stand for a tree, in which each chunk that was sent has 512 bytes. Then at each moment of it, of each gfid whose flat file is a
+/// stand for a tree. Then at each moment of it, of each gfid whose flat file is a
 /// directory, each brick's unmarked record at the flat file's version leads each closed name to the flat file's child. It does
 /// nothing when it runs.
 pub fn world_name_laws()

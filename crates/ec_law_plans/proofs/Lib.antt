@@ -7,6 +7,7 @@ pub mod Planned
 pub mod Windows
 pub mod Owing
 pub mod Histories
+pub mod Chunks
 pub mod Entries
 pub mod Saying
 pub mod Named

@@ -50,6 +50,7 @@ use Rattle.ec_law_plans.specs.Named.{AreNamed, NamedInEveryLog, SetOwnNames}
 use Rattle.ec_law_plans.specs.Naming.{HavePlans, NameFile, NamePlans, chosen_at, chosen_by, group_shape, name_plan}
 use Rattle.ec_law_parts.specs.LeavesOff.{DataBeforePosts}
 use Rattle.ec_law_plans.proofs.Agreeing.{same_file}
+use Rattle.ec_law_plans.proofs.Chunks.{run_whole}
 use Rattle.ec_law_plans.proofs.Entries.{BodyKnown, EntryKnown, MessageKnown, SentKnown, entry_coded, entry_owes}
 use Rattle.ec_law_plans.proofs.Extending.{acts_run, extended, runs_front, same_owed}
 use Rattle.ec_law_plans.proofs.Fitting.{fits_last, plan_is, same_fits, sent_fits}
@@ -399,4 +400,4 @@ module _ (writes : WriteLaws) (shapes : ShapeLaw) (config : Config) (records : �
       append_none (x ∷ xs) = ap (λ (ys : List Entry). x ∷ ys) (append_none xs)
 
 pub named_logs : NamedInEveryLog
-named_logs writes shapes config records bricks tree next g es start runs plain orderly data_first own whole made = are_named writes shapes config records bricks tree next g es start runs plain orderly data_first own whole made
+named_logs writes shapes config records bricks tree next g es start runs plain orderly data_first own made = are_named writes shapes config records bricks tree next g es start runs plain orderly data_first own (run_whole config.geometry.n es (fresh bricks) runs) made

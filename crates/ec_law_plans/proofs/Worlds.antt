@@ -123,9 +123,9 @@ module _ (stands : Ctx → Given → AnyCall → List Own → Type 0) (by_table 
       names_there = at_front config records bricks tree next start nothing_left (λ a. refl) (log_of s) logged.is_run plain_all es rest parts (λ given xs. EachSends (SetsItsName given) xs) (λ given xs ys h. each_front (SetsItsName given) xs ys h) names_all
 
       named_there : WorldDataLaws stands by_table → NamedInEveryLog → WriteLaws → ShapeLaw → (g : ℕ) → NamesAreHeld config records bricks tree next g es
-      named_there data_laws named writes shapes g whole made =
+      named_there data_laws named writes shapes g made =
           let w = laws.in_order config bricks tree next s c logged es rest parts in
-          named writes shapes config records bricks tree next g es start w.is_run w.plain orderly_there (data_laws.data_first config records bricks tree next g s c start logged es rest parts) names_there whole made
+          named writes shapes config records bricks tree next g es start w.is_run w.plain orderly_there (data_laws.data_first config records bricks tree next g s c start logged es rest parts) names_there made
 
   pub name_laws : WorldLaws stands by_table → WorldDataLaws stands by_table → NamedInEveryLog → NameLaws stands by_table
   name_laws laws data_laws named = record {

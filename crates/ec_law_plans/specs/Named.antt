@@ -17,7 +17,7 @@ use Rattle.ec_law_turns.specs.Orderly.{ArePlain, IsOrderly}
 use Rattle.ec_law_data.specs.Deeds.{file}
 use Rattle.ec_law_data.specs.Forms.{of_directory}
 use Rattle.ec_law_data.specs.Laws.{begun, directory_begun}
-use Rattle.ec_law_data.specs.Link.{HoldClosed, IsWhole}
+use Rattle.ec_law_data.specs.Link.{HoldClosed}
 use Rattle.ec_law_plans.specs.Extend.{OweNothing}
 use Rattle.ec_law_plans.specs.Given.{EachRequest, MakesDirectory, ShapeLaw, WriteLaws}
 use Rattle.ec_law_plans.specs.Naming.{HavePlans, NameFile, NamePlans}
@@ -41,8 +41,8 @@ abbrev pub SetOwnNames : Books → Type 0
 SetOwnNames b = (a : ℕ) (given : Given) → b.given a ≡ Some given → EachSends (SetsItsName given) (b.own a)
 
 -- So it is after each log that begins with bricks that stand for a tree, in which the calls are plain and keep the conduct in order,
--- each request of a call that changes data was sent before each of its PostOps, each call sets its own names alone, each chunk has 512
--- bytes, and the gfid is made as a directory, if it is made.
+-- each request of a call that changes data was sent before each of its PostOps, each call sets its own names alone, and the gfid is
+-- made as a directory, if it is made.
 abbrev pub NamedInEveryLog : Type 0
 NamedInEveryLog =
     WriteLaws → ShapeLaw
@@ -53,6 +53,5 @@ NamedInEveryLog =
     → (orderly : IsOrderly config.geometry es (fresh bricks) (opening tree next))
     → Always DataBeforePosts g es (fresh bricks) (begun config records tree next g)
     → SetOwnNames (books config.geometry orderly.left es (fresh bricks) (opening tree next) no_books)
-    → EachRequest IsWhole es
     → EachRequest (MakesDirectory g) es
     → AreNamed config records bricks tree next g orderly.left es

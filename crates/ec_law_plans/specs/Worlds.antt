@@ -13,7 +13,6 @@ use Rattle.ec_history.specs.Story.{opening}
 use Rattle.ec_store.specs.Records.{Records}
 use Rattle.ec_txn.specs.declared.ctx.Ctx.{Ctx}
 use Rattle.ec_wire.specs.declared.entry.Entry.{Entry}
-use Rattle.ec_law_data.specs.Link.{IsWhole}
 use Rattle.ec_law_parts.specs.Laws.{InEveryWorldsLog}
 use Rattle.ec_law_plans.specs.Given.{EachRequest, MakesDirectory, ShapeLaw, WriteLaws}
 use Rattle.ec_law_plans.specs.Named.{AreNamed, SetOwnNames}
@@ -25,7 +24,7 @@ CallsSetOwnNames config records bricks tree next g es = SetOwnNames (books confi
 -- Where each chunk has 512 bytes, and the gfid is made as a directory, if it is made: there are plans by which the log owes nothing, and
 -- the bricks hold one child at each closed name.
 abbrev pub NamesAreHeld : Config → (ℕ → Records) → (ℕ → Brick) → Tree → ℕ → ℕ → List Entry → Type 0
-NamesAreHeld config records bricks tree next g es = EachRequest IsWhole es → EachRequest (MakesDirectory g) es → AreNamed config records bricks tree next g nothing_left es
+NamesAreHeld config records bricks tree next g es = EachRequest (MakesDirectory g) es → AreNamed config records bricks tree next g nothing_left es
 
 pub record NameLaws (stands : Ctx → Given → AnyCall → List Own → Type 0) (by_table : Ctx → Given → List Own → Type 0) : Type 0 where
   pub own_names : InEveryWorldsLog stands by_table CallsSetOwnNames

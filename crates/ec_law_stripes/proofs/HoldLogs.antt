@@ -25,8 +25,8 @@ use Rattle.ec_law_stripes.proofs.FitLogs.{cuts_keep, fit_log}
 use Rattle.ec_law_stripes.proofs.StripeLogs.{striped_logs}
 
 pub held_logs : HeldInEveryLog
-held_logs config records bricks tree next g es start zeros runs plain orderly empty data_first makings made chunks files built some one =
-    let s = striped_logs config records bricks tree next g es start zeros runs plain orderly empty data_first makings made chunks files in
+held_logs config records bricks tree next g es start zeros runs plain orderly empty data_first makings made files built some one =
+    let s = striped_logs config records bricks tree next g es start zeros runs plain orderly empty data_first makings made files in
     let most : config.geometry.n < quorum config.geometry + quorum config.geometry = (let h = config.geometry.majority in omega (arith, h)) in
     let begins = reaches_start config records bricks tree next (λ a. a) most start in
     let kept : Kept config.geometry orderly.left orderly.none_kept (books config.geometry orderly.left es (fresh bricks) (opening tree next) no_books) = (λ a given h. (orderly.conduct a given h, orderly.order a given h)) in

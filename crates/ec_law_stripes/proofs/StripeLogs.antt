@@ -10,7 +10,7 @@ use Rattle.ec_conduct.specs.Given.{Given, quorum, quorum_of}
 use Rattle.ec_conduct.specs.Opened.{account}
 use Rattle.ec_history.specs.Accounts.{Books, Leaving, booked, books, no_books}
 use Rattle.ec_history.specs.Flat.{Tree}
-use Rattle.ec_history.specs.IsRun.{IsRun}
+use Rattle.ec_history.specs.IsRun.{AreChunks, IsRun}
 use Rattle.ec_history.specs.Run.{Net, after as net_after, call_of, fresh, run}
 use Rattle.ec_history.specs.Starts.{IsStart}
 use Rattle.ec_history.specs.Story.{Story, opening, story}
@@ -43,12 +43,13 @@ use Rattle.ec_law_data.proofs.OrderlyDeeds.{all_reach}
 use Rattle.ec_law_data.proofs.Reaching.{Reaches, reaches_start}
 use Rattle.ec_law_files.specs.Filing.{AreRows, FilePlans, HaveFilePlans, StripeFile, chosen_at, plan_of}
 use Rattle.ec_law_files.specs.Laws.{AllMade, OwnMade}
-use Rattle.ec_law_files.specs.Plans.{AreChunks, PutsOne, ReadsOld}
+use Rattle.ec_law_files.specs.Plans.{PutsOne, ReadsOld}
 use Rattle.ec_law_files.specs.Stripes.{Making}
 use Rattle.ec_law_files.proofs.FilingLaws.{filing_laws}
 use Rattle.ec_law_parts.specs.LeavesOff.{DataBeforePosts}
 use Rattle.ec_law_plans.specs.Extend.{ActsRun, Agree, AsPlanned, GoesOn, OweNothing}
 use Rattle.ec_law_plans.specs.Given.{EachRequest}
+use Rattle.ec_law_plans.proofs.Chunks.{run_chunks}
 use Rattle.ec_law_plans.proofs.Agreeing.{same_file}
 use Rattle.ec_law_plans.proofs.Extending.{acts_run, extended, runs_front}
 use Rattle.ec_law_plans.proofs.Fronts.{orderly_at}
@@ -395,4 +396,4 @@ module _ (config : Config) (records : ℕ → Records) (bricks : ℕ → Brick) 
       }
 
 pub striped_logs : StripedInEveryLog
-striped_logs config records bricks tree next g es start zeros runs plain orderly empty data_first makings made chunks files = are_striped config records bricks tree next g es start zeros runs plain orderly empty data_first makings made chunks files
+striped_logs config records bricks tree next g es start zeros runs plain orderly empty data_first makings made files = are_striped config records bricks tree next g es start zeros runs plain orderly empty data_first makings made (run_chunks config.geometry.n es (fresh bricks) runs) files

@@ -87,7 +87,7 @@ module _ (stands : Ctx → Given → AnyCall → List Own → Type 0) (by_table 
         held config records bricks tree next g es start zeros w.is_run w.plain
         (orderly_at config records bricks tree next start nothing_left (λ a. refl) (log_of s) logged.is_run plain_all es rest parts keeps_all order_all)
         (λ client. refl)
-        (data_laws.data_first config records bricks tree next g s c start logged es rest parts) o.0 o.1 leaves.chunks leaves.files (built_calls stands by_table built config bricks tree next s c logged es rest parts) leaves.some
+        (data_laws.data_first config records bricks tree next g s c start logged es rest parts) o.0 o.1 leaves.files (built_calls stands by_table built config bricks tree next s c logged es rest parts) leaves.some
         (one_turn config records bricks tree next g s c start logged es rest parts)
 
   pub world_laws : WorldLaws stands by_table → WorldDataLaws stands by_table → WorldStripeLaws stands by_table → HeldInEveryLog → WorldHeldLaws stands by_table

@@ -24,7 +24,6 @@ use Rattle.ec_law_data.specs.Forms.{is_data}
 use Rattle.ec_law_data.specs.Laws.{begun}
 use Rattle.ec_law_files.specs.Filing.{FilePlans}
 use Rattle.ec_law_files.specs.Laws.{AllMade}
-use Rattle.ec_law_files.specs.Plans.{AreChunks}
 use Rattle.ec_law_files.specs.Stripes.{Making}
 use Rattle.ec_law_flats.specs.Plans.{is_unbuilt}
 use Rattle.ec_law_flats.specs.Stripes.{AllSized, DataInOneTurn}
@@ -66,7 +65,6 @@ HeldInEveryLog =
     → Always DataBeforePosts g es (fresh bricks) (begun config records tree next g)
     → (makings : ℕ → Making)
     → AllMade makings config.geometry orderly.left es (fresh bricks) (opening tree next) no_books
-    → EachRequest AreChunks es
     → EachRequest (MakesFile g) es
     → AreBuiltCalls (run es (fresh bricks))
     → AllWriteSome g (run es (fresh bricks))
@@ -75,10 +73,8 @@ HeldInEveryLog =
 
 -- ## Worlds
 
--- What is left to show of the log of a world: that its chunks are chunks, that the gfid is made as a file, and that a write of no
--- bytes sends no data.
+-- What is left to show of the log of a world: that the gfid is made as a file, and that a write of no bytes sends no data.
 pub record IsLeft (g : ℕ) (es : List Entry) (m : Net) : Type 0 where
-  pub chunks : EachRequest AreChunks es
   pub files : EachRequest (MakesFile g) es
   pub some : AllWriteSome g m
 

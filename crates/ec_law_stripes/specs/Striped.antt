@@ -20,7 +20,6 @@ use Rattle.ec_law_data.specs.Laws.{begun}
 use Rattle.ec_law_data.specs.Link.{HoldClosed}
 use Rattle.ec_law_files.specs.Filing.{FilePlans, HaveFilePlans, StripeFile, plan_of}
 use Rattle.ec_law_files.specs.Laws.{AllMade}
-use Rattle.ec_law_files.specs.Plans.{AreChunks}
 use Rattle.ec_law_files.specs.Stripes.{Making}
 use Rattle.ec_law_parts.specs.LeavesOff.{DataBeforePosts}
 use Rattle.ec_law_plans.specs.Extend.{OweNothing}
@@ -65,7 +64,7 @@ pub record AreStriped (config : Config) (records : ℕ → Records) (bricks : �
 
 -- So it is after each log that begins with bricks that stand for a tree in which past the sizes stand zeros, in which the calls are
 -- plain, keep the conduct in order and leave no stripes to their clients, each request of a call that changes data was sent before
--- each of its PostOps, each call makes one thing of its file, each chunk is one, and the gfid is made as a file, if it is made.
+-- each of its PostOps, each call makes one thing of its file, and the gfid is made as a file, if it is made.
 abbrev pub StripedInEveryLog : Type 0
 StripedInEveryLog =
     (config : Config) (records : ℕ → Records) (bricks : ℕ → Brick) (tree : Tree) (next g : ℕ) (es : List Entry)
@@ -78,6 +77,5 @@ StripedInEveryLog =
     → Always DataBeforePosts g es (fresh bricks) (begun config records tree next g)
     → (makings : ℕ → Making)
     → AllMade makings config.geometry orderly.left es (fresh bricks) (opening tree next) no_books
-    → EachRequest AreChunks es
     → EachRequest (MakesFile g) es
     → AreStriped config records bricks tree next g orderly.left makings es

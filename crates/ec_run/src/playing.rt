@@ -4,8 +4,6 @@ ghost use Rattle.std.specs.List.{list_all};
 ghost use Rattle.ec_attr.specs.declared.geometry.Geometry.{Geometry};
 ghost use Rattle.ec_brick.specs.State.{State};
 ghost use Rattle.ec_history.specs.Run.{fresh};
-ghost use Rattle.ec_law_data.specs.Link.{IsWhole};
-ghost use Rattle.ec_law_plans.specs.Given.{EachRequest};
 ghost use Rattle.ec_play.specs.Ends.{Ends};
 ghost use Rattle.ec_play.specs.Statuses.{ButForMemoryIn, is_refusal};
 ghost use Rattle.ec_play.specs.Taken.{LooksAt, TakesAtMost, most_of_script};
@@ -13,7 +11,6 @@ ghost use Rattle.ec_run.specs.Consistency.{IsLogSince};
 ghost use Rattle.ec_store.specs.Causes.{Rose};
 
 use ec_bank::RowTimes;
-use ec_law_names::whole_log;
 use ec_play::{Means, Status, play};
 use ec_store::{BrickStore, Sink, Source};
 use ec_wire::Log;
@@ -54,9 +51,6 @@ pub fn play_world<S: Source, O: Sink, B: BrickStore, T: RowTimes>(
     ensures taken { TakesAtMost most_of_script (S.left script.old) (S.left script.new) }
     ensures looks { LooksAt result (S.left script.old) (S.left script.new) }
 
-    // Each chunk that the log sends has 512 bytes.
-    ensures whole { EachRequest IsWhole log.new }
-
     // A fault of the source or the sink.
     ensures read { result ≡ Status.ReadFault → Rose (S.faults script.old) (S.faults script.new) }
     ensures write { result ≡ Status.WriteFault → Rose (O.faults out.old) (O.faults out.new) }
@@ -64,6 +58,5 @@ pub fn play_world<S: Source, O: Sink, B: BrickStore, T: RowTimes>(
     let mut world = world;
     let status = play(alloc, logs, &mut world, stores, rows, script, out);
     *log = world.finish();
-    whole_log(log);
     status
 }

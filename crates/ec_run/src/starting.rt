@@ -3,8 +3,6 @@ ghost use Rattle.std.specs.Prelude.{◌≡◌, ◌≢◌, ℕ, IfSome, [], false
 ghost use Rattle.std.specs.Io.KnownBytes.{Keeps};
 ghost use Rattle.std.specs.List.{list_all};
 ghost use Rattle.ec_brick.specs.StartFault.{is_failure};
-ghost use Rattle.ec_law_data.specs.Link.{IsWhole};
-ghost use Rattle.ec_law_plans.specs.Given.{EachRequest};
 ghost use Rattle.ec_play.specs.Statuses.{is_refusal};
 ghost use Rattle.ec_play.specs.Taken.{LooksAt, TakesAtMost, most_of_script};
 ghost use Rattle.ec_run.specs.Run.{is_before_opening};
@@ -58,7 +56,6 @@ pub fn start_and_play<S: Source, O: Sink, B: BrickStore, F: Multiply, G: Combine
         EndsStarted (⟦<World as Means>⟧.meaning) (list_all B.told stores.old ≡ true) volume.now logs
         (map B.records stores.old) (map B.records stores.new) result input (O.written out.old) (O.written out.new)
         log.new) }
-    ensures whole { EachRequest IsWhole log.new }
     ensures started { is_before_opening result ≡ false }
     ensures taken { TakesAtMost most_of_script (S.left script.old) (S.left script.new) }
     ensures looks { LooksAt result (S.left script.old) (S.left script.new) }

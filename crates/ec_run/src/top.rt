@@ -2,8 +2,6 @@
 ghost use Rattle.std.specs.Prelude.{◌≡◌, ◌⊎◌, ℕ, IfSome, None, [], false, map, slice_index, true, vec_len};
 ghost use Rattle.std.specs.Io.KnownBytes.{Keeps};
 ghost use Rattle.std.specs.List.{list_all};
-ghost use Rattle.ec_law_data.specs.Link.{IsWhole};
-ghost use Rattle.ec_law_plans.specs.Given.{EachRequest};
 ghost use Rattle.ec_play.specs.Statuses.{is_refusal};
 ghost use Rattle.ec_play.specs.Taken.{LooksAt, TakesAtMost, most_of_script};
 ghost use Rattle.ec_run.specs.Run.{EndsRun, is_before_opening, is_report_order};
@@ -62,9 +60,6 @@ pub fn run<V: Source, S: Source, O: Sink, B: BrickStore, F: Multiply, G: Combine
         EndsRun (⟦<World as Means>⟧.meaning) (list_all B.told bricks.old.items ≡ true) (map (λ w. w.now) words.now)
         file (vec_len bricks.old) (map B.records bricks.old.items) (map B.records bricks.new.items)
         result input (O.written out.old) (O.written out.new) log.new)) }
-
-    // Each chunk that the log sends has 512 bytes, as the names that bricks hold at each moment ask of it.
-    ensures whole { EachRequest IsWhole log.new }
 
     // However long they are, no more is taken of the volume file than a byte more than it may have, and of the script
     // than a line more. The lines that are obeyed are at most 2^20, none of them too long; the one after them is looked at

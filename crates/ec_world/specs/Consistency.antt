@@ -49,9 +49,8 @@ ButForMemory result holds = holds
 -- have the same version; as one commits its version is above that of every record at a brick that didn't do its PostOp; a call
 -- that was answered that it changed something has committed by then, after it was made, and by one entry alone, at which the flat
 -- file becomes what the call makes of it; K records without a mark that agree have the flat file's version, the heads of all stand
--- for it, and those at its version hold each closed name of a directory, where each chunk that was sent has 512 bytes; and each call
--- that was answered has the cause of its answer in what it sent and heard. An attempt is a turn of which a brick did a PostOp; `call`
--- and `call_of` number those before the log.
+-- for it, and those at its version hold each closed name of a directory; and each call that was answered has the cause of its answer in
+-- what it sent and heard. An attempt is a turn of which a brick did a PostOp; `call` and `call_of` number those before the log.
 pub record IsConsistent (config : Config) (records : ℕ → Records) (bricks : ℕ → State) (tree : Tree) (next : ℕ) (log : List Entry) : Type 0 where
   pub no_two_alike : (g : ℕ) (call : ℕ → ℕ) (es rest : List Entry) → log ≡ es ++ rest → NoTwoAlike config.geometry.n (quorum config.geometry) (view g es (fresh bricks) (first_view config.geometry.n (tree g).version records g call next)).core
   pub above_others : (g : ℕ) (call : ℕ → ℕ) (es rest : List Entry) → log ≡ es ++ rest → AboveOthers config.geometry.n (quorum config.geometry) (view g es (fresh bricks) (first_view config.geometry.n (tree g).version records g call next)).core

@@ -23,9 +23,3 @@ returns-in-Info-clause-looks g c = λ asked. absurd (not_reported c.args.command
 
 pub returns-in-Check-clause-looks : goal.returns-in-Check-clause-looks
 returns-in-Check-clause-looks g c = λ asked. absurd (not_checked c.args.command c.in-Check.is asked)
-
-pub returns-in-Info-clause-whole : goal.returns-in-Info-clause-whole
-returns-in-Info-clause-whole g c = rw c.requires.empty tt
-
-pub returns-in-Check-clause-whole : goal.returns-in-Check-clause-whole
-returns-in-Check-clause-whole g c = rw c.requires.empty tt

@@ -63,6 +63,3 @@ returns-in-Err-clause-taken g c = takes_none most_of_script (g.S.Source.left c.a
 
 pub returns-in-Err-clause-looks : goal.returns-in-Err-clause-looks
 returns-in-Err-clause-looks g c = rw c.status_of_start.ensures.status (looks_at_none (start_status c.in-Err.brick c.in-Err.fault) (g.S.Source.left c.args.script.now) (stops_unopened c.in-Err.brick c.in-Err.fault))
-
-pub returns-in-Err-clause-whole : goal.returns-in-Err-clause-whole
-returns-in-Err-clause-whole g c = rw c.requires.empty tt

@@ -69,21 +69,3 @@ returns-then-len-from-clause-script_lines g c = λ asked. looks_at_none (status.
 
 pub returns-clause-script_lines : goal.returns-clause-script_lines
 returns-clause-script_lines g c = λ asked. c.start_and_obey.ensures.looks (rw c.in-Ok.ensures.order at asked)
-
-pub returns-in-Err-Bad-clause-whole : goal.returns-in-Err-Bad-clause-whole
-returns-in-Err-Bad-clause-whole g c = rw c.requires.empty tt
-
-pub returns-in-Err-NoMemory-clause-whole : goal.returns-in-Err-NoMemory-clause-whole
-returns-in-Err-NoMemory-clause-whole g c = rw c.requires.empty tt
-
-pub returns-in-Err-ReadFault-clause-whole : goal.returns-in-Err-ReadFault-clause-whole
-returns-in-Err-ReadFault-clause-whole g c = rw c.requires.empty tt
-
-pub returns-in-Err-Refused-clause-whole : goal.returns-in-Err-Refused-clause-whole
-returns-in-Err-Refused-clause-whole g c = rw c.requires.empty tt
-
-pub returns-in-Err-NoMemory-volume_of-clause-whole : goal.returns-in-Err-NoMemory-volume_of-clause-whole
-returns-in-Err-NoMemory-volume_of-clause-whole g c = rw c.requires.empty tt
-
-pub returns-then-len-from-clause-whole : goal.returns-then-len-from-clause-whole
-returns-then-len-from-clause-whole g c = rw c.requires.empty tt

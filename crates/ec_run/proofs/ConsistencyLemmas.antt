@@ -21,7 +21,7 @@ use Rattle.ec_store.specs.Records.{Records}
 use Rattle.ec_txn.specs.declared.ctx.Ctx.{Ctx}
 use Rattle.ec_volfile.specs.declared.volume.Volume.{Volume}
 use Rattle.ec_wire.specs.declared.entry.Entry.{Entry}
-use Rattle.ec_world.specs.Consistency.{IsConsistent, BeganWith, ConsistencyLaws}
+use Rattle.ec_world.specs.Consistency.{AreAllOfVolume, IsConsistent, BeganWith, ConsistencyLaws}
 use Rattle.ec_world.specs.Whole.{config_of}
 use Rattle.ec_world.specs.declared.world.World.{World}
 
@@ -54,13 +54,14 @@ from : (how : Status) (P R : Type 0) → (P → R) → ButForMemoryIn how P → 
 from how P R f p = both how P P R (λ x y. f x) p p
 
 module _ (stands : Ctx → Given → AnyCall → List Own → Type 0) (by_table : Ctx → Given → List Own → Type 0) (laws : ConsistencyLaws stands by_table) (volume : Volume) (started : List Records) (first : ℕ) (log : List Entry)
-    (unique : (tree : Tree) (next : ℕ) → IsStart (config_of volume) (λ b. (opened (config_of volume) started b).records) (opened (config_of volume) started) tree next → next ≡ first) where
+    (unique : (tree : Tree) (next : ℕ) → IsStart (config_of volume) (λ b. (opened (config_of volume) started b).records) (opened (config_of volume) started) tree next → next ≡ first)
+    (of_volume : (tree : Tree) → AreAllOfVolume (config_of volume) (λ b. (opened (config_of volume) started b).records) tree) where
   consistent : IsLogSince (meaning_of stands by_table) volume.geometry first log → IsRun volume.geometry.n log (fresh (opened (config_of volume) started)) → IsConsistentSince volume started log
   consistent (w, is, from) runs tree next start =
       let config = config_of volume in
       let records : ℕ → Records = λ b. (opened config started b).records in
       subst (λ (es : List Entry). IsConsistent config records (opened config started) tree next es) is
-      (laws config records (opened config started) tree next w start (subst (λ (f : ℕ). BeganWith stands by_table w volume.geometry f) (sym (unique tree next start)) from) (subst (λ (es : List Entry). IsRun volume.geometry.n es (fresh (opened config started))) (sym is) runs))
+      (laws config records (opened config started) tree next w start (of_volume tree) (subst (λ (f : ℕ). BeganWith stands by_table w volume.geometry f) (sym (unique tree next start)) from) (subst (λ (es : List Entry). IsRun volume.geometry.n es (fresh (opened config started))) (sym is) runs))
 
   pub run_consistent : (how : Status) → ButForMemoryIn how (IsLogSince (meaning_of stands by_table) volume.geometry first log) → ButForMemoryIn how (IsRun volume.geometry.n log (fresh (opened (config_of volume) started))) → ButForMemoryIn how (IsConsistentSince volume started log)
   run_consistent how since runs = both how (IsLogSince (meaning_of stands by_table) volume.geometry first log) (IsRun volume.geometry.n log (fresh (opened (config_of volume) started))) (IsConsistentSince volume started log) consistent since runs

@@ -60,11 +60,11 @@ was_taken config m g taken = at (is_some (m 1)) refl taken
     at true e x = inl x
     at false e x = put_was_taken m (first_root config) g e x
 
-no_records : Records
+pub no_records : Records
 no_records g = None
 
 -- of a store that there is
-its_records : (stores : List Records) (b : ℕ) → b < length stores → slice_get stores b ≡ Some (get_or stores b no_records)
+pub its_records : (stores : List Records) (b : ℕ) → b < length stores → slice_get stores b ≡ Some (get_or stores b no_records)
 its_records stores b there = slice_get-get_or stores b no_records there
 
 module _ (config : Config) (n : ℕ) (before started : List Records) (there : length before ≡ n) (many : length started ≡ n) (kept : AreKept config n before started) where

@@ -31,7 +31,7 @@ use Rattle.ec_txn.specs.declared.ctx.Ctx.{Ctx}
 use Rattle.ec_wire.specs.declared.entry.Entry.{Entry}
 use Rattle.ec_wire.specs.declared.event.Event.{Event}
 use Rattle.ec_world.specs.Events.{Advances, FirstOfEvent, OfEvent, Stepped}
-use Rattle.ec_world.specs.Consistency.{ButForMemory, IsConsistent, BeganWith, ConsistencyLaws}
+use Rattle.ec_world.specs.Consistency.{AreAllOfVolume, ButForMemory, IsConsistent, BeganWith, ConsistencyLaws}
 use Rattle.ec_world.specs.Whole.{Steps}
 use Rattle.ec_world.specs.declared.refused.Refused.{Refused}
 use Rattle.ec_world.specs.declared.refused.Refused.TheVariants.{NoMessage, NoneBetween, Busy, Idle, Dead, Down, Up, NoBrick, NotAsked, NotTearable, TooMany, NotKeeping, Unbuilt, NoMemory}
@@ -111,13 +111,13 @@ from_beginning stands by_table w geometry next first coded same empty h = record
 
 -- all is consistent at each moment of the log of a world
 pub consistency_laws : (stands : Ctx → Given → AnyCall → List Own → Type 0) (by_table : Ctx → Given → List Own → Type 0) → WorldLaws stands by_table → AnswerLaws stands by_table → CommitLaws stands by_table → WorldFlatLaws stands by_table → WorldHeadLaws stands by_table → WorldNameLaws stands by_table → WorldCauseLaws stands by_table → ConsistencyLaws stands by_table
-consistency_laws stands by_table laws answers commits flats heads names causes config records bricks tree next w start from runs = record {
+consistency_laws stands by_table laws answers commits flats heads names causes config records bricks tree next w start of_volume from runs = record {
   no_two_alike = λ g call es rest parts. laws.no_two_alike config records bricks tree next g call w.cluster w.clients start logged es rest parts;
   above_others = λ g call es rest parts. laws.above_others config records bricks tree next g call w.cluster w.clients start logged es rest parts;
   answered_after_commit = λ g call_of es rest parts call op answer h says. answers.answered_after_commit config records bricks tree next g call_of w.cluster w.clients start logged es rest parts call op answer h says;
   answered_by_one_commit = λ g es rest parts call op answer h says. commits.answered_by_one_commit config records bricks tree next g w.cluster w.clients start logged es rest parts call op answer h says;
   agree_at_flat_file = λ g es rest parts. flats.agree config records bricks tree next g w.cluster w.clients start logged es rest parts;
-  heads_stand = λ g es rest parts. heads.heads config records bricks tree next g w.cluster w.clients start logged es rest parts;
+  heads_stand = λ g es rest parts. heads.heads config records bricks tree next g w.cluster w.clients start logged es rest parts (of_volume g);
   names_held = λ g es rest parts. names.held config records bricks tree next g w.cluster w.clients start logged es rest parts;
   answered_with_cause = λ es rest call answer parts. causes.cause config bricks tree next w.cluster w.clients logged es rest call answer parts;
 }
@@ -133,20 +133,20 @@ consistency_laws stands by_table laws answers commits flats heads names causes c
 
 -- the same, of what comes of an event
 pub consistent_after : (stands : Ctx → Given → AnyCall → List Own → Type 0) (by_table : Ctx → Given → List Own → Type 0) → ConsistencyLaws stands by_table
-    → (config : Config) (records : ℕ → Records) (bricks : ℕ → State) (tree : Tree) (next : ℕ) (t : World) (result : Result (Unit {0}) Refused) → IsStart config records bricks tree next → ButForMemory result (BeganWith stands by_table t config.geometry next) → IsRun config.geometry.n (log_of t.cluster) (fresh bricks)
+    → (config : Config) (records : ℕ → Records) (bricks : ℕ → State) (tree : Tree) (next : ℕ) (t : World) (result : Result (Unit {0}) Refused) → IsStart config records bricks tree next → AreAllOfVolume config records tree → ButForMemory result (BeganWith stands by_table t config.geometry next) → IsRun config.geometry.n (log_of t.cluster) (fresh bricks)
     → ButForMemory result (IsConsistent config records bricks tree next (log_of t.cluster))
-consistent_after stands by_table laws config records bricks tree next t (Ok x) start from runs = laws config records bricks tree next t start from runs
-consistent_after stands by_table laws config records bricks tree next t (Err NoMemory) start from runs = tt
-consistent_after stands by_table laws config records bricks tree next t (Err (NoMessage n)) start from runs = laws config records bricks tree next t start from runs
-consistent_after stands by_table laws config records bricks tree next t (Err (NoneBetween x y)) start from runs = laws config records bricks tree next t start from runs
-consistent_after stands by_table laws config records bricks tree next t (Err (Busy n)) start from runs = laws config records bricks tree next t start from runs
-consistent_after stands by_table laws config records bricks tree next t (Err (Idle n)) start from runs = laws config records bricks tree next t start from runs
-consistent_after stands by_table laws config records bricks tree next t (Err (Dead n)) start from runs = laws config records bricks tree next t start from runs
-consistent_after stands by_table laws config records bricks tree next t (Err (Down n)) start from runs = laws config records bricks tree next t start from runs
-consistent_after stands by_table laws config records bricks tree next t (Err (Up n)) start from runs = laws config records bricks tree next t start from runs
-consistent_after stands by_table laws config records bricks tree next t (Err (NoBrick n)) start from runs = laws config records bricks tree next t start from runs
-consistent_after stands by_table laws config records bricks tree next t (Err (NotAsked x y)) start from runs = laws config records bricks tree next t start from runs
-consistent_after stands by_table laws config records bricks tree next t (Err (NotTearable n)) start from runs = laws config records bricks tree next t start from runs
-consistent_after stands by_table laws config records bricks tree next t (Err (TooMany n)) start from runs = laws config records bricks tree next t start from runs
-consistent_after stands by_table laws config records bricks tree next t (Err (NotKeeping n)) start from runs = laws config records bricks tree next t start from runs
-consistent_after stands by_table laws config records bricks tree next t (Err Unbuilt) start from runs = laws config records bricks tree next t start from runs
+consistent_after stands by_table laws config records bricks tree next t (Ok x) start of_volume from runs = laws config records bricks tree next t start of_volume from runs
+consistent_after stands by_table laws config records bricks tree next t (Err NoMemory) start of_volume from runs = tt
+consistent_after stands by_table laws config records bricks tree next t (Err (NoMessage n)) start of_volume from runs = laws config records bricks tree next t start of_volume from runs
+consistent_after stands by_table laws config records bricks tree next t (Err (NoneBetween x y)) start of_volume from runs = laws config records bricks tree next t start of_volume from runs
+consistent_after stands by_table laws config records bricks tree next t (Err (Busy n)) start of_volume from runs = laws config records bricks tree next t start of_volume from runs
+consistent_after stands by_table laws config records bricks tree next t (Err (Idle n)) start of_volume from runs = laws config records bricks tree next t start of_volume from runs
+consistent_after stands by_table laws config records bricks tree next t (Err (Dead n)) start of_volume from runs = laws config records bricks tree next t start of_volume from runs
+consistent_after stands by_table laws config records bricks tree next t (Err (Down n)) start of_volume from runs = laws config records bricks tree next t start of_volume from runs
+consistent_after stands by_table laws config records bricks tree next t (Err (Up n)) start of_volume from runs = laws config records bricks tree next t start of_volume from runs
+consistent_after stands by_table laws config records bricks tree next t (Err (NoBrick n)) start of_volume from runs = laws config records bricks tree next t start of_volume from runs
+consistent_after stands by_table laws config records bricks tree next t (Err (NotAsked x y)) start of_volume from runs = laws config records bricks tree next t start of_volume from runs
+consistent_after stands by_table laws config records bricks tree next t (Err (NotTearable n)) start of_volume from runs = laws config records bricks tree next t start of_volume from runs
+consistent_after stands by_table laws config records bricks tree next t (Err (TooMany n)) start of_volume from runs = laws config records bricks tree next t start of_volume from runs
+consistent_after stands by_table laws config records bricks tree next t (Err (NotKeeping n)) start of_volume from runs = laws config records bricks tree next t start of_volume from runs
+consistent_after stands by_table laws config records bricks tree next t (Err Unbuilt) start of_volume from runs = laws config records bricks tree next t start of_volume from runs

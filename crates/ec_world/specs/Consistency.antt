@@ -17,8 +17,8 @@ use Rattle.ec_history.specs.Starts.{IsStart}
 use Rattle.ec_law_answers.specs.Answered.{CommitsBetween, IsAnswered, SaysChanged, until}
 use Rattle.ec_law_causes.specs.Laws.{HasCauseInLog}
 use Rattle.ec_law_commits.specs.Commits.{CommitsOnce}
-use Rattle.ec_law_heads.specs.Heads.{HeadsStand}
-use Rattle.ec_law_heads.specs.Worlds.{HoldsInVolume}
+use Rattle.ec_law_heads.specs.Heads.{AreOfVolume, HeadsStand}
+use Rattle.ec_law_heads.specs.Worlds.{Holds}
 use Rattle.ec_law_names.specs.Laws.{HoldsNames}
 use Rattle.ec_law_net.specs.Start.{first_view}
 use Rattle.ec_law_net.specs.Turns.{view}
@@ -40,6 +40,10 @@ pub record BeganWith (stands : Ctx → Given → AnyCall → List Own → Type 0
   pub coded : w.clients.options.geometry ≡ geometry
   pub sees : (bricks : ℕ → State) (tree : Tree) → Sees stands by_table w.cluster w.clients (come geometry (log_of w.cluster) (beginning bricks tree first))
 
+-- each record with which the bricks begin is of the volume, as a brick sees to that opens its store
+abbrev pub AreAllOfVolume : Config → (ℕ → Records) → Tree → Type 0
+AreAllOfVolume config records tree = (g : ℕ) → AreOfVolume config (λ b. records b g) (tree g)
+
 -- but for want of memory
 abbrev pub ButForMemory : Result (Unit {0}) Refused → Type 0 → Type 0
 ButForMemory (Err NoMemory) holds = Unit {0}
@@ -59,13 +63,13 @@ pub record IsConsistent (config : Config) (records : ℕ → Records) (bricks : 
   pub answered_by_one_commit : (g : ℕ) (es rest : List Entry) → log ≡ es ++ rest → (call : ℕ) (op : Op) (answer : Answer) (h : IsAnswered es call op answer) → SaysChanged op answer g
       → CommitsOnce config.geometry bricks tree next es h.earlier h.between call h.client op g
   pub agree_at_flat_file : (g : ℕ) (es rest : List Entry) → log ≡ es ++ rest → AgreesAtFlatFile config records bricks tree next g es
-  pub heads_stand : (g : ℕ) (es rest : List Entry) → log ≡ es ++ rest → HoldsInVolume HeadsStand config records bricks tree next g es
+  pub heads_stand : (g : ℕ) (es rest : List Entry) → log ≡ es ++ rest → Holds HeadsStand config records bricks tree next g es
   pub names_held : (g : ℕ) (es rest : List Entry) → log ≡ es ++ rest → HoldsNames config records bricks tree next g es
   pub answered_with_cause : (es rest : List Entry) (call : ℕ) (answer : Answer) → log ≡ es ++ Answered call answer ∷ rest → HasCauseInLog config bricks tree next log call answer
 
--- what holds after the log of every world that began with bricks that stand for a tree, where the log is a run
+-- what holds after the log of every world that began with bricks of its volume that stand for a tree, where the log is a run
 abbrev pub ConsistencyLaws : (Ctx → Given → AnyCall → List Own → Type 0) → (Ctx → Given → List Own → Type 0) → Type 0
 ConsistencyLaws stands by_table =
     (config : Config) (records : ℕ → Records) (bricks : ℕ → State) (tree : Tree) (next : ℕ) (w : World)
-    → IsStart config records bricks tree next → BeganWith stands by_table w config.geometry next → IsRun config.geometry.n (log_of w.cluster) (fresh bricks)
+    → IsStart config records bricks tree next → AreAllOfVolume config records tree → BeganWith stands by_table w config.geometry next → IsRun config.geometry.n (log_of w.cluster) (fresh bricks)
     → IsConsistent config records bricks tree next (log_of w.cluster)

@@ -14,7 +14,7 @@ ghost use Rattle.ec_history.specs.Run.{fresh, run};
 ghost use Rattle.ec_history.specs.Starts.{IsStart};
 ghost use Rattle.ec_store.specs.Records.{Records};
 ghost use Rattle.ec_world.specs.Unanswered.{AreUnanswered};
-ghost use Rattle.ec_world.specs.Consistency.{ButForMemory, IsConsistent, BeganWith, ConsistencyLaws};
+ghost use Rattle.ec_world.specs.Consistency.{AreAllOfVolume, ButForMemory, IsConsistent, BeganWith, ConsistencyLaws};
 ghost use Rattle.ec_world.specs.Whole.{IsAs, IsOpen, IsUnbuilt, StaysOpen, Steps, config_of, options_of};
 ghost use Rattle.ec_world.specs.World.{FitsEvent};
 
@@ -59,7 +59,7 @@ fn config_of(volume: &Volume) -> Config
     }
 }
 
-/// After the log of every world that began with bricks that stand for a tree, versions, commits and answers are consistent at each
+/// After the log of every world that began with bricks of its volume that stand for a tree, versions, commits and answers are consistent at each
 /// moment: what is answered as done is committed, by one entry between its call and its answer, K records that agree have the
 /// version of the flat file, and records at that version hold each closed name of a directory. It does nothing when it runs.
 pub fn consistency_laws()
@@ -173,7 +173,7 @@ impl World {
         // is answered as done is committed.
         ensures from { (geometry : Geometry) (first : ℕ) → BeganWith (⟦<AnyCall as Conduct>⟧.stands) (tabled (⟦<AnyCall as Conduct>⟧.begins) (⟦<AnyCall as Conduct>⟧.goes)) self.old geometry first → ButForMemory result (BeganWith (⟦<AnyCall as Conduct>⟧.stands) (tabled (⟦<AnyCall as Conduct>⟧.begins) (⟦<AnyCall as Conduct>⟧.goes)) self.new geometry first) }
         ensures consistent { (config : Config) (records : ℕ → Records) (bricks : ℕ → State) (tree : Tree) (next : ℕ)
-            → IsStart config records bricks tree next → BeganWith (⟦<AnyCall as Conduct>⟧.stands) (tabled (⟦<AnyCall as Conduct>⟧.begins) (⟦<AnyCall as Conduct>⟧.goes)) self.old config.geometry next
+            → IsStart config records bricks tree next → AreAllOfVolume config records tree → BeganWith (⟦<AnyCall as Conduct>⟧.stands) (tabled (⟦<AnyCall as Conduct>⟧.begins) (⟦<AnyCall as Conduct>⟧.goes)) self.old config.geometry next
             → IsRun config.geometry.n (log_of self.new.cluster) (fresh bricks)
             → ButForMemory result (IsConsistent config records bricks tree next (log_of self.new.cluster)) }
     {

@@ -34,11 +34,11 @@ returns-clause-from g c = λ geometry first from.
     (inr (c.if-is_unbuilt.ensures.not refl, c.obey.ensures.outcome))
 
 pub returns-clause-consistent : goal.returns-clause-consistent
-returns-clause-consistent g c = λ config records bricks tree next start from runs.
-    consistent_after _ _ c.consistency_laws.ensures config records bricks tree next (record c.args.self.now { clients = c.obey.new.clients; cluster = c.obey.new.cluster }) c.obey.result start
+returns-clause-consistent g c = λ config records bricks tree next start of_volume from runs.
+    consistent_after _ _ c.consistency_laws.ensures config records bricks tree next (record c.args.self.now { clients = c.obey.new.clients; cluster = c.obey.new.cluster }) c.obey.result start of_volume
     (stays_from _ _ c.args.self.now (record c.args.self.now { clients = c.obey.new.clients; cluster = c.obey.new.cluster }) config.geometry next from (list_all g.S.BrickStore.told c.args.stores.now ≡ true) c.args.event.now (map g.S.BrickStore.records c.args.stores.now) (map g.S.BrickStore.records c.obey.new.stores) c.obey.result
     (inr (c.if-is_unbuilt.ensures.not refl, c.obey.ensures.outcome))) runs
 
 pub returns-then-is_unbuilt-clause-consistent : goal.returns-then-is_unbuilt-clause-consistent
-returns-then-is_unbuilt-clause-consistent g c = λ config records bricks tree next start from runs.
-    c.consistency_laws.ensures config records bricks tree next c.args.self.now start from runs
+returns-then-is_unbuilt-clause-consistent g c = λ config records bricks tree next start of_volume from runs.
+    c.consistency_laws.ensures config records bricks tree next c.args.self.now start of_volume from runs

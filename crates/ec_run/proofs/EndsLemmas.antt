@@ -18,7 +18,7 @@ use Rattle.ec_run.proofs.ConsistencyLemmas.{ends_run}
 use Rattle.ec_run.proofs.VolumeLemmas.{told, told_both}
 use Rattle.ec_run.specs.Run.{EndsOrdered, EndsRun, HasRun, IsOtherCount, IsUntouched, is_before_opening}
 use Rattle.ec_run.specs.Starts.{AreStarted, EndsStarted, HasPlayed, IsUnopened, start_status}
-use Rattle.ec_run.specs.Consistency.{IsConsistentSince}
+use Rattle.ec_run.specs.Consistency.{IsConsistentSince, StandFresh}
 use Rattle.ec_store.specs.Records.{Records}
 use Rattle.ec_volfile.specs.Grammar.{IsVolumeFile}
 use Rattle.ec_volfile.specs.Outline.{outline}
@@ -54,13 +54,13 @@ module _ {W : Type 0} (M : Meaning W) (Told : Type 0) (volume : Volume) (logs : 
   unopened None b fault old new log h = tt
   unopened (Some input) b fault old new log h = unopened_ends b fault input old new log h
 
-  pub played : (started : List Records) (left : Option (List ℕ)) (how : Status) (old new : Option (List ℕ)) (log : List Entry) → (Told → AreStarted (config_of volume) volume.geometry.n before started)
+  pub played : (started : List Records) (left : Option (List ℕ)) (how : Status) (old new : Option (List ℕ)) (log : List Entry) → (Told → AreStarted (config_of volume) volume.geometry.n before started) → (Told → StandFresh volume before started)
       → (Told → ButForMemoryIn how (IsRun volume.geometry.n log (fresh (opened (config_of volume) started))) → ButForMemoryIn how (IsConsistentSince volume started log))
       → IfSome left (λ input. Ends M Told volume.geometry.n logs (fresh (opened (config_of volume) started)) how input old new log after)
       → IfSome left (λ input. EndsStarted M Told volume logs before after how input old new log)
-  played started None how old new log are consistent h = tt
-  played started (Some input) how old new log are consistent h =
-      played_ends how input old new log (record { started = started; are_started = are; ends = h; consistent = λ told. consistent told (ends_run M Told volume.geometry.n logs (fresh (opened (config_of volume) started)) how input old new log after h told) })
+  played started None how old new log are fresh_stand consistent h = tt
+  played started (Some input) how old new log are fresh_stand consistent h =
+      played_ends how input old new log (record { started = started; are_started = are; ends = h; fresh = fresh_stand; consistent = λ told. consistent told (ends_run M Told volume.geometry.n logs (fresh (opened (config_of volume) started)) how input old new log after h told) })
 
 -- the run of a volume file and of what is ordered
 module _ {W : Type 0} (M : Meaning W) (Told : Type 0) (words : List (List ℕ)) (there : ℕ) (before after : List Records) where
@@ -99,12 +99,12 @@ are_started config n count before now same accepted kept roots others = subst (�
 
 -- a script that was played from stores that tell what they told, and are as many as the volume's bricks
 pub played_from : {W : Type 0} (M : Meaning W) (volume : Volume) (logs : Bool) (before after : List Records) (now was : Bool) (count : ℕ) (started : List Records) (left : Option (List ℕ)) (how : Status) (old new : Option (List ℕ)) (log : List Entry)
-    → now ≡ was → count ≡ volume.geometry.n → (was ≡ true → AreStarted (config_of volume) volume.geometry.n before started)
+    → now ≡ was → count ≡ volume.geometry.n → (was ≡ true → AreStarted (config_of volume) volume.geometry.n before started) → (was ≡ true → StandFresh volume before started)
     → (was ≡ true → ButForMemoryIn how (IsRun volume.geometry.n log (fresh (opened (config_of volume) started))) → ButForMemoryIn how (IsConsistentSince volume started log))
     → IfSome left (λ input. Ends M (now ≡ true) count logs (fresh (opened (config_of volume) started)) how input old new log after)
     → IfSome left (λ input. EndsStarted M (was ≡ true) volume logs before after how input old new log)
-played_from M volume logs before after now was count started left how old new log same many are consistent h =
-    played M (was ≡ true) volume logs before after started left how old new log are consistent
+played_from M volume logs before after now was count started left how old new log same many are fresh_stand consistent h =
+    played M (was ≡ true) volume logs before after started left how old new log are fresh_stand consistent
     (subst (λ (b : Bool). IfSome left (λ input. Ends M (b ≡ true) volume.geometry.n logs (fresh (opened (config_of volume) started)) how input old new log after)) same
     (subst (λ (n : ℕ). IfSome left (λ input. Ends M (now ≡ true) n logs (fresh (opened (config_of volume) started)) how input old new log after)) many h))
 

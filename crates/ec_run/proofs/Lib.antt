@@ -2,6 +2,7 @@ pub mod VolumeLemmas
 pub mod EndsLemmas
 pub mod NextLemmas
 pub mod OfVolume
+pub mod Fresh
 pub mod ConsistencyLemmas
 pub mod ReportLemmas
 pub mod OrderLemmas

@@ -13,7 +13,7 @@ use Rattle.ec_play.specs.Statuses.{ButForMemoryIn}
 use Rattle.ec_play.specs.declared.status.BricksWhy.TheVariants as wrong
 use Rattle.ec_play.specs.declared.status.Status.{Status}
 use Rattle.ec_play.specs.declared.status.Status.TheVariants as status
-use Rattle.ec_run.specs.Consistency.{IsConsistentSince}
+use Rattle.ec_run.specs.Consistency.{IsConsistentSince, StandFresh}
 use Rattle.ec_store.specs.Records.{Records}
 use Rattle.ec_volfile.specs.declared.volume.Volume.{Volume}
 use Rattle.ec_wire.specs.declared.entry.Entry.{Entry}
@@ -35,11 +35,12 @@ pub record AreStarted (config : Config) (n : ℕ) (before now : List Records) : 
   pub same : ¬ (AreUnused config n before) → now ≡ before
 
 -- The stores were opened, and the script was played from what they held then. But for want of memory its log and
--- the bricks are consistent, where the stores stand for a tree as they are opened.
+-- the bricks are consistent, where the stores stand for a tree as they are opened: so do stores without a record.
 pub record HasPlayed {W : Type 0} (M : Meaning W) (Told : Type 0) (volume : Volume) (logs : Bool) (before after : List Records) (how : Status) (input : List ℕ) (old new : Option (List ℕ)) (log : List Entry) : Type 0 where
   pub started : List Records
   pub are_started : Told → AreStarted (config_of volume) volume.geometry.n before started
   pub ends : Ends M Told volume.geometry.n logs (fresh (opened (config_of volume) started)) how input old new log after
+  pub fresh : Told → StandFresh volume before started
   pub consistent : Told → ButForMemoryIn how (IsConsistentSince volume started log)
 
 -- A store wasn't opened, and each head in those before it was accepted. Where roots were to be put, since all stores are unused, those of the stores before it have theirs.

@@ -12,7 +12,9 @@ ghost use Rattle.ec_store.specs.Causes.{Rose};
 use crate::playing::play_world;
 use ec_bank::{Bank, Combine, Multiply, RowBank};
 use ec_brick::StartFault;
+use ec_history::start_laws;
 use ec_law_heads::restart_laws;
+use ec_law_reads::stripe_laws;
 use ec_play::{BricksWhy, Means, Status};
 use ec_store::{BrickStore, Sink, Source};
 use ec_volfile::{Kernel, Volume};
@@ -67,6 +69,8 @@ pub fn start_and_play<S: Source, O: Sink, B: BrickStore, F: Multiply, G: Combine
 {
     consistency_laws();
     restart_laws();
+    start_laws();
+    stripe_laws();
     let world = match World::start(alloc, volume, stores) {
         Ok(world) => world,
         Err((brick, fault)) => return status_of_start(brick, fault),

@@ -73,6 +73,41 @@ fn names_come_and_go(rt: HostRuntime) -> Result<(), Fail> {
     )
 }
 
+/// A client died when two of six bricks had committed its write, and another wrote while just those two were down.
+#[test]
+fn a_death_after_two_commits(rt: HostRuntime) -> Result<(), Fail> {
+    leaves(
+        &rt,
+        FOUR_OF_SIX,
+        6,
+        "call 1 create 1 66\nsettle\ncall 1 write 2 0 41*2048\nuntil 1 post\ndeliver c1-b4\ndeliver c1-b5\n\
+        die 1\ncut 1 all\nstop 4\nstop 5\ncall 2 write 2 0 42*2048\nsettle\nreturn 4\nreturn 5\n\
+        call 2 read 2 0 1\nsettle\n",
+        "1 child file 2\n3 ok 2048\n4 data 42\nopen 2\n",
+        "00000000-0000-0000-0000-000000000001 dir 1/0/0 1/0/0 1/0/0 1/0/0 1/0/0 1/0/0 group 0,1,2,3,4,5\n\
+        00000000-0000-0000-0000-000000000002 file 2/2048/1 2/2048/1 2/2048/1 2/2048/1 1/2048/1 1/2048/1 \
+        group 0,1,2,3\n",
+    )
+}
+
+/// A client died when one of six bricks had its chunk of the first stripe. The next write of that stripe closes it, and all bricks
+/// are whole again.
+#[test]
+fn a_death_within_a_write(rt: HostRuntime) -> Result<(), Fail> {
+    leaves(
+        &rt,
+        FOUR_OF_SIX,
+        6,
+        "call 1 create 1 66\nsettle\ncall 1 write 2 0 41*4096\nsettle\ncall 1 write 2 0 42*2048\nuntil 1 write\n\
+        deliver c1-b1\ndie 1\ncut 1 all\ncall 2 read 2 2048 2\nsettle\ncall 2 write 2 0 43*2048\nsettle\n\
+        call 2 read 2 0 2\nsettle\n",
+        "1 child file 2\n2 ok 4096\n4 data 4141\n5 ok 4096\n6 data 4343\nopen 3\n",
+        "00000000-0000-0000-0000-000000000001 dir 1/0/0 1/0/0 1/0/0 1/0/0 1/0/0 1/0/0 group 0,1,2,3,4,5\n\
+        00000000-0000-0000-0000-000000000002 file 3/4096/0 3/4096/0 3/4096/0 3/4096/0 3/4096/0 3/4096/0 \
+        group 0,1,2,3,4,5\n",
+    )
+}
+
 /// Three of six bricks have the name that a client made as it died: no four agree on it, and it can be removed.
 #[test]
 fn a_name_on_half_of_the_bricks(rt: HostRuntime) -> Result<(), Fail> {

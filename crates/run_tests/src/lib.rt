@@ -9,6 +9,8 @@ mod faults;
 #[cfg(test)]
 mod kept;
 #[cfg(test)]
+mod many;
+#[cfg(test)]
 mod playing;
 #[cfg(test)]
 mod refusals;

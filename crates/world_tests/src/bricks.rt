@@ -92,3 +92,20 @@ fn a_write_is_torn(rt: HostRuntime) -> Result<(), Fail> {
         "1 child file 2\n2 ok 1024\n3 data 41\n4 ok 1024\n",
     )
 }
+
+/// However much of the write the brick has written, the others write it whole, and nobody reads from that brick.
+#[test]
+fn a_write_is_torn_anywhere(rt: HostRuntime) -> Result<(), Fail> {
+    for bytes in [0u32, 1, 511, 512, 1024, 1535, 1536] {
+        let script = format!(in rt.alloc();
+            "call 1 create 1 66\nsettle\n\
+            call 1 write 2 0 41*3072\nuntil 1 write\n\
+            tear c1-b2 {bytes}\nsettle\n\
+            return 2\n\
+            call 1 read 2 0 1\nsettle"
+        )?;
+        let wanted = "1 child file 2\n2 ok 3072\n3 data 41\n";
+        answers(&rt, 3, 1, script.as_str(), wanted)?;
+    }
+    Ok(())
+}

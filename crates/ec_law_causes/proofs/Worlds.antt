@@ -1,5 +1,5 @@
 -- In the log of a world each answer has its cause.
-use Rattle.std.proofs.Common.{◌≡◌, ℕ, ◌+◌, ◌==◌, Bool, true, false, cond, refl, sym, ◌∙◌, ap, subst, List, [], ◌∷◌, ◌++◌, Option, Some, None}
+use Rattle.std.proofs.Common.{◌≡◌, ℕ, ◌+◌, ◌==◌, Bool, true, false, cond, refl, sym, ◌∙◌, ap, subst, List, [], ◌∷◌, ◌++◌, Option, Some, None, ◌⊎◌}
 use Rattle.ec_attr.specs.declared.config.Config.{Config}
 use Rattle.ec_attr.specs.declared.geometry.Geometry.{Geometry}
 use Rattle.ec_attr.specs.declared.kind.Domain.TheVariants.{Inode, Heal}
@@ -35,7 +35,7 @@ use Rattle.ec_law_calls.specs.World.{IsLogged}
 use Rattle.ec_law_net.proofs.Conducts.{log_grows, together}
 use Rattle.ec_law_parts.proofs.Worlds.{logged_sees}
 use Rattle.ec_law_turns.proofs.Basics.{put_here}
-use Rattle.ec_law_causes.specs.Causes.{HasCause}
+use Rattle.ec_law_causes.specs.Causes.{HasCause, IsSuccess}
 use Rattle.ec_law_causes.specs.Laws.{CallCauseLaws, HasCauseInLog, WorldCauseLaws}
 
 some_is : {X : Type 0} (x y : X) → Some x ≡ Some y → x ≡ y
@@ -165,6 +165,7 @@ module _ (stands : Ctx → Given → AnyCall → List Own → Type 0) (by_table 
         begun = ap (λ (b : Books). b.given call) (sym same) ∙ k.begun;
         answered = subst (λ (b : Books). (account k.given (b.own call)).answer ≡ Some answer) same told;
         cause = subst (λ (b : Books). HasCause (account k.given (b.own call)) answer) same (laws.cause k.x k.given k.call ((ledger p).own call) answer k.meets told);
+        only = subst (λ (b : Books). (other : Answer) → HasCause (account k.given (b.own call)) other → (other ≡ answer) ⊎ (IsSuccess other × IsSuccess answer)) same (λ other has. laws.only k.x k.given k.call ((ledger p).own call) answer other k.meets told has);
       }
 
   pub cause_laws : WorldCauseLaws stands by_table

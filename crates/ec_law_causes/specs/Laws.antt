@@ -29,12 +29,14 @@ pub record CallCauseLaws (stands : Ctx → Given → AnyCall → List Own → Ty
   pub only : (x : Ctx) (given : Given) (call : AnyCall) (es : List Own) (answer other : Answer) → stands x given call es → (account given es).answer ≡ Some answer → HasCause (account given es) other
       → (other ≡ answer) ⊎ (IsSuccess other × IsSuccess answer)
 
--- The call that was answered in this log has, by what it began with and its own entries there, the cause of its answer.
+-- The call that was answered in this log has, by what it began with and its own entries there, the cause of its answer, and of no
+-- other answer, but that which success it says may be free.
 pub record HasCauseInLog (config : Config) (bricks : ℕ → Brick) (tree : Tree) (next : ℕ) (log : List Entry) (call : ℕ) (answer : Answer) : Type 0 where
   pub given : Given
   pub begun : (books config.geometry nothing_left log (fresh bricks) (opening tree next) no_books).given call ≡ Some given
   pub answered : (account given ((books config.geometry nothing_left log (fresh bricks) (opening tree next) no_books).own call)).answer ≡ Some answer
   pub cause : HasCause (account given ((books config.geometry nothing_left log (fresh bricks) (opening tree next) no_books).own call)) answer
+  pub only : (other : Answer) → HasCause (account given ((books config.geometry nothing_left log (fresh bricks) (opening tree next) no_books).own call)) other → (other ≡ answer) ⊎ (IsSuccess other × IsSuccess answer)
 
 -- Of the log of every world that is as what has come of its log says, over whatever bricks.
 pub record WorldCauseLaws (stands : Ctx → Given → AnyCall → List Own → Type 0) (by_table : Ctx → Given → List Own → Type 0) : Type 0 where

@@ -21,8 +21,8 @@ use Rattle.ec_law_plans.specs.Named.{AreNamed, SetOwnNames}
 abbrev pub CallsSetOwnNames : Config → (ℕ → Records) → (ℕ → Brick) → Tree → ℕ → ℕ → List Entry → Type 0
 CallsSetOwnNames config records bricks tree next g es = SetOwnNames (books config.geometry nothing_left es (fresh bricks) (opening tree next) no_books)
 
--- Where each chunk has 512 bytes, and the gfid is made as a directory, if it is made: there are plans by which the log owes nothing, and
--- the bricks hold one child at each closed name.
+-- Where the gfid is made as a directory, if it is made: there are plans by which the log owes nothing, and the bricks hold one child at
+-- each closed name.
 abbrev pub NamesAreHeld : Config → (ℕ → Records) → (ℕ → Brick) → Tree → ℕ → ℕ → List Entry → Type 0
 NamesAreHeld config records bricks tree next g es = EachRequest (MakesDirectory g) es → AreNamed config records bricks tree next g nothing_left es
 

@@ -119,6 +119,7 @@ consistency_laws stands by_table laws answers commits flats heads names causes c
   agree_at_flat_file = λ g es rest parts. flats.agree config records bricks tree next g w.cluster w.clients start logged es rest parts;
   heads_stand = λ g es rest parts. heads.heads config records bricks tree next g w.cluster w.clients start logged es rest parts (of_volume g);
   names_held = λ g es rest parts. names.held config records bricks tree next g w.cluster w.clients start logged es rest parts;
+  in_order = λ es rest parts. laws.in_order config bricks tree next w.cluster w.clients logged es rest parts;
   answered_with_cause = λ es rest call answer parts. causes.cause config bricks tree next w.cluster w.clients logged es rest call answer parts;
 }
   where

@@ -15,6 +15,7 @@ use Rattle.ec_history.specs.IsRun.{IsRun}
 use Rattle.ec_history.specs.Run.{fresh}
 use Rattle.ec_history.specs.Starts.{IsStart}
 use Rattle.ec_law_answers.specs.Answered.{CommitsBetween, IsAnswered, SaysChanged, until}
+use Rattle.ec_law_calls.specs.World.{IsInOrder}
 use Rattle.ec_law_causes.specs.Laws.{HasCauseInLog}
 use Rattle.ec_law_commits.specs.Commits.{CommitsOnce}
 use Rattle.ec_law_heads.specs.Heads.{AreOfVolume, HeadsStand}
@@ -53,8 +54,9 @@ ButForMemory result holds = holds
 -- have the same version; as one commits its version is above that of every record at a brick that didn't do its PostOp; a call
 -- that was answered that it changed something has committed by then, after it was made, and by one entry alone, at which the flat
 -- file becomes what the call makes of it; K records without a mark that agree have the flat file's version, the heads of all stand
--- for it, and those at its version hold each closed name of a directory; and each call that was answered has the cause of its answer in
--- what it sent and heard. An attempt is a turn of which a brick did a PostOp; `call` and `call_of` number those before the log.
+-- for it, and those at its version hold each closed name of a directory; each call keeps the conduct and its order; and each call that
+-- was answered has the cause of its answer, and of no other, in what it sent and heard. An attempt is a turn of which a brick did a
+-- PostOp; `call` and `call_of` number those before the log.
 pub record IsConsistent (config : Config) (records : ℕ → Records) (bricks : ℕ → State) (tree : Tree) (next : ℕ) (log : List Entry) : Type 0 where
   pub no_two_alike : (g : ℕ) (call : ℕ → ℕ) (es rest : List Entry) → log ≡ es ++ rest → NoTwoAlike config.geometry.n (quorum config.geometry) (view g es (fresh bricks) (first_view config.geometry.n (tree g).version records g call next)).core
   pub above_others : (g : ℕ) (call : ℕ → ℕ) (es rest : List Entry) → log ≡ es ++ rest → AboveOthers config.geometry.n (quorum config.geometry) (view g es (fresh bricks) (first_view config.geometry.n (tree g).version records g call next)).core
@@ -65,6 +67,7 @@ pub record IsConsistent (config : Config) (records : ℕ → Records) (bricks : 
   pub agree_at_flat_file : (g : ℕ) (es rest : List Entry) → log ≡ es ++ rest → AgreesAtFlatFile config records bricks tree next g es
   pub heads_stand : (g : ℕ) (es rest : List Entry) → log ≡ es ++ rest → Holds HeadsStand config records bricks tree next g es
   pub names_held : (g : ℕ) (es rest : List Entry) → log ≡ es ++ rest → HoldsNames config records bricks tree next g es
+  pub in_order : (es rest : List Entry) → log ≡ es ++ rest → IsInOrder config bricks tree next es
   pub answered_with_cause : (es rest : List Entry) (call : ℕ) (answer : Answer) → log ≡ es ++ Answered call answer ∷ rest → HasCauseInLog config bricks tree next log call answer
 
 -- what holds after the log of every world that began with bricks of its volume that stand for a tree, where the log is a run

@@ -169,8 +169,8 @@ impl World {
         ensures open { StaysOpen (⟦<AnyCall as Conduct>⟧.stands) (tabled (⟦<AnyCall as Conduct>⟧.begins) (⟦<AnyCall as Conduct>⟧.goes)) self.new result }
 
         // What it was begun with, and that all is consistent: no two attempts have the same version, a commit's is above those of
-        // all bricks outside it, K records that agree have that of the flat file and records at it hold its closed names, and what
-        // is answered as done is committed.
+        // all bricks outside it, K records that agree have that of the flat file, heads stand for it and records at it hold its
+        // closed names, each call keeps its conduct, what is answered as done is committed, and each answer has its cause.
         ensures from { (geometry : Geometry) (first : ℕ) → BeganWith (⟦<AnyCall as Conduct>⟧.stands) (tabled (⟦<AnyCall as Conduct>⟧.begins) (⟦<AnyCall as Conduct>⟧.goes)) self.old geometry first → ButForMemory result (BeganWith (⟦<AnyCall as Conduct>⟧.stands) (tabled (⟦<AnyCall as Conduct>⟧.begins) (⟦<AnyCall as Conduct>⟧.goes)) self.new geometry first) }
         ensures consistent { (config : Config) (records : ℕ → Records) (bricks : ℕ → State) (tree : Tree) (next : ℕ)
             → IsStart config records bricks tree next → AreAllOfVolume config records tree → BeganWith (⟦<AnyCall as Conduct>⟧.stands) (tabled (⟦<AnyCall as Conduct>⟧.begins) (⟦<AnyCall as Conduct>⟧.goes)) self.old config.geometry next

@@ -30,7 +30,8 @@ use Rattle.ec_wire.specs.declared.request.Request.TheVariants.{WriteChunks, SetL
 use Rattle.ec_law_data.specs.Coding.{by_rows}
 use Rattle.ec_law_data.specs.Deeds.{is_post_on}
 use Rattle.ec_law_data.specs.Forms.{is_data, of_file}
-use Rattle.ec_law_data.specs.Link.{Codes, EntryCoded, IsWhole, MessageCoded, MessageWhole, BodyCoded, BodyWhole}
+use Rattle.ec_law_data.specs.Link.{Codes, EntryCoded, MessageCoded, MessageWhole, BodyCoded, BodyWhole}
+use Rattle.ec_law_data.proofs.Chunks.{whole_request}
 use Rattle.ec_law_net.specs.Turns.{View, is_lock_on, turn_of}
 use Rattle.ec_law_pieces.specs.Deed.{IsPlan}
 use Rattle.ec_law_turns.specs.Follows.{All, IsOfTurn}

@@ -1,0 +1,10 @@
+pub mod Taking
+pub mod Becoming
+pub mod Later
+pub mod Beside
+pub mod Showing
+pub mod Telling
+pub mod Steps
+pub mod Walking
+pub mod Beginning
+pub mod Logs

@@ -107,7 +107,7 @@ module _ {P V C U X : Type 0} (part : Shape → X) (R : Reading P V C U Shape) (
       by false (Some kind) e is = ap (λ (z : Bool). part (cond (not z) flat.shape R.new)) e ∙ (shape ∙ sym (ap (λ (z : Option Kind). part (shown_of z R.new (tree_shape (tree g)))) is))
 
   -- no turn of the log has a ballot as it begins
-  no_ballot : AsTook R plans n q' g first_file
+  pub no_ballot : AsTook R plans n q' g first_file
   no_ballot a begun' number = absurd (none ((begun config records tree next g).core.moment a) refl)
     where
       none : (t : Bool) → (begun config records tree next g).core.moment a ≡ t → ⊥

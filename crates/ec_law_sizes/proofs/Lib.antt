@@ -8,3 +8,9 @@ pub mod Steps
 pub mod Walking
 pub mod Beginning
 pub mod Logs
+pub mod Asked
+pub mod Choosing
+pub mod Extending
+pub mod NewShapes
+pub mod Records
+pub mod Worlds

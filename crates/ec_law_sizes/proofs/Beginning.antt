@@ -98,8 +98,8 @@ module _ {P V C U X : Type 0} (part : Shape → X) (R : Reading P V C U Shape) (
       let none : count_below config.geometry.n (λ b. is_some (records b g)) ≡ 0 = none_of (λ b. is_some (records b g)) config.geometry.n (λ b lt. ap (λ (o : Option Record). is_some o) (unmade_first unmade b lt)) in
       absurd (let z = sym e ∙ ap (λ (c : ℕ). c == 0) none in cc)
 
-  track : Tracks part R.new first_bare (from_before (tree g))
-  track = record { version = version; shape = by (is_new config.geometry.n records g) (tree g).kind refl refl }
+  track : Tracks (tree g).version part R.new first_bare (from_before (tree g))
+  track = record { version = version; unmarked = λ h. h; shape = by (is_new config.geometry.n records g) (tree g).kind refl refl }
     where
       by : (c : Bool) (o : Option Kind) → is_new config.geometry.n records g ≡ c → (tree g).kind ≡ o → part (cond (not (is_new config.geometry.n records g)) flat.shape R.new) ≡ part (shown_of (tree g).kind R.new (tree_shape (tree g)))
       by true o e is = ap (λ (z : Bool). part (cond (not z) flat.shape R.new)) e ∙ sym (ap (λ (z : Option Kind). part (shown_of z R.new (tree_shape (tree g)))) (new_kind e))
@@ -117,7 +117,7 @@ module _ {P V C U X : Type 0} (part : Shape → X) (R : Reading P V C U Shape) (
           moment : first_file.heads.moment a ≡ (begun config records tree next g).core.moment a
           moment = ap (λ (origin : ℕ). (begin_state config.geometry.n origin (first_heads config.geometry.n records g) (is_new config.geometry.n records g) (λ a. a)).moment a) version
 
-  pub begins : Front part R plans config.geometry g (fresh bricks) (λ h. begun config records tree next h) (opening tree next) first_file first_bare
+  pub begins : Front (tree g).version part R plans config.geometry g (fresh bricks) (λ h. begun config records tree next h) (opening tree next) first_file first_bare
   begins = record {
     heads = ap (λ (origin : ℕ). begin_state config.geometry.n origin (first_heads config.geometry.n records g) (is_new config.geometry.n records g) (λ a. a)) version;
     beside = beside;

@@ -62,9 +62,9 @@ module _ {P V C U X : Type 0} (part : Shape → X) (goes : IsPart part) (R : Rea
   pub part_log : AllOweShape R.form config.geometry.n (quorum config.geometry) (all_deeds R plans config.geometry.n (quorum config.geometry) g es (fresh bricks) (begun config records tree next g) (begun_file R config records g flat (λ b. shape_in (records b g)) piece st.value)) (begun_file R config records g flat (λ b. shape_in (records b g)) piece st.value)
       → MakesAre part R.new g (run es (fresh bricks)) → PlanParts part plans g (run es (fresh bricks)) (view g es (fresh bricks) (begun config records tree next g))
       → AllShaped part plans.took config.geometry g es (fresh bricks) (begun config records tree next g) (opening tree next)
-      × Ends part R plans config.geometry g (run es (fresh bricks)) (view g es (fresh bricks) (begun config records tree next g)) (story config.geometry es (fresh bricks) (opening tree next)) (file R plans config.geometry.n (quorum config.geometry) g es (fresh bricks) (begun config records tree next g) (begun_file R config records g flat (λ b. shape_in (records b g)) piece st.value))
+      × Ends (tree g).version part R plans config.geometry g (run es (fresh bricks)) (view g es (fresh bricks) (begun config records tree next g)) (story config.geometry es (fresh bricks) (opening tree next)) (file R plans config.geometry.n (quorum config.geometry) g es (fresh bricks) (begun config records tree next g) (begun_file R config records g flat (λ b. shape_in (records b g)) piece st.value))
   part_log owe makes ops =
-      walk part goes R plans config.geometry orderly.left orderly.none_kept next (λ h. (tree h).version) (λ h le. unversioned config records bricks tree next h start le) g es (fresh bricks) (λ h. begun config records tree next h) (opening tree next) no_books f0
+      walk (tree g).version part goes R plans config.geometry orderly.left orderly.none_kept next (λ h. (tree h).version) (λ h le. unversioned config records bricks tree next h start le) g es (fresh bricks) (λ h. begun config records tree next h) (opening tree next) no_books f0
       (first_bare part R plans config records bricks tree next g start flat piece st version shape) runs plain (λ a given h. (orderly.conduct a given h, orderly.order a given h)) (reaches_start config records bricks tree next (λ a. a) most start)
       (begins part R plans config records bricks tree next g start flat piece st version shape) one owe makes ops
 

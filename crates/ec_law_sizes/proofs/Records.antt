@@ -144,7 +144,7 @@ module _ (config : Config) (records : ℕ → Records) (bricks : ℕ → Brick) 
   planned : Extends new config.geometry orderly.left orderly.none_kept next (λ h. (tree h).version) (λ h le. unversioned config records bricks tree next h start le) g first_plans es (fresh bricks) (begun config records tree next g) (opening tree next) no_books f0
   planned = extended new config.geometry orderly.left orderly.none_kept next (λ h. (tree h).version) (λ h le. unversioned config records bricks tree next h start le) g es (fresh bricks) (λ h. begun config records tree next h) (opening tree next) no_books f0 first_plans runs plain (λ a given h. (orderly.conduct a given h, orderly.order a given h)) begin_reaches has makes
 
-  ends : Ends whole (of_shapes new) planned.plans config.geometry g m v (story config.geometry es (fresh bricks) (opening tree next)) (file (of_shapes new) planned.plans n q' g es (fresh bricks) (begun config records tree next g) f0)
+  ends : Ends (tree g).version whole (of_shapes new) planned.plans config.geometry g m v (story config.geometry es (fresh bricks) (opening tree next)) (file (of_shapes new) planned.plans n q' g es (fresh bricks) (begun config records tree next g) f0)
   ends = (part_log whole whole_part (of_shapes new) planned.plans config records bricks tree next g es start runs plain orderly steady.one_turn first_flat (λ b p. tt) stands refl refl planned.owe makes planned.parts).1
 
   abbrev x : FlatFile

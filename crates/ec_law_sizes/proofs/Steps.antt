@@ -55,7 +55,7 @@ use Rattle.ec_law_shapes.proofs.Shadowing.{bare_plans}
 use Rattle.ec_law_sizes.specs.Sizes.{tree_shape}
 use Rattle.ec_law_sizes.proofs.Beside.{Beside, no_request, no_torn}
 use Rattle.ec_law_sizes.proofs.Showing.{Becomes, Stays, easy_stays, posted_becomes, posted_stays, shown_flat, stays, sunk_stays}
-use Rattle.ec_law_sizes.proofs.Telling.{MakesNew, SameShown, began_shown, outcome_shown, same_shown, shown_file, shown_of, torn_shown}
+use Rattle.ec_law_sizes.proofs.Telling.{MakesNew, SameShown, began_shown, new_keeps, outcome_shown, same_shown, shown_file, shown_of, torn_shown}
 
 -- what a commit makes of a flat file's shape is what the call makes of it
 pub change_shape : (k : ℕ) (op : Op) (found : Found) (g a version : ℕ) (x : FlatFile) → shape_after op (tree_shape x) ≡ tree_shape (committed k a version (change k op found g x) x)
@@ -86,10 +86,12 @@ easy_torn : (o : Option Message) → Easy (acts_torn o)
 easy_torn None = tt
 easy_torn (Some msg) = (refl, tt)
 
--- the machine's flat value is at the flat file's version, and has this part of its shape
-pub record Tracks {X : Type 0} (part : Shape → X) (new : Shape) (s : Bare) (x : FlatFile) : Type 0 where
+-- The machine's flat value is at the flat file's version, and has this part of its shape. The version is unmarked where that of the
+-- beginning was.
+pub record Tracks {X : Type 0} (origin : ℕ) (part : Shape → X) (new : Shape) (s : Bare) (x : FlatFile) : Type 0 where
   pub version : s.flat.version ≡ x.version
   pub shape : part (shown_flat new s) ≡ part (shown_file new x)
+  pub unmarked : is_marked origin ≡ false → is_marked x.version ≡ false
 
 -- where a call commits on the gfid, this part of the flat file's shape is that of the turn's group
 abbrev pub EntryShaped : {X : Type 0} → (Shape → X) → (ℕ → Shape) → Geometry → ℕ → Net → View → Story → Entry → Type 0
@@ -100,7 +102,7 @@ EntryShaped part took geometry g m v t e = Unit {0}
 abbrev pub IsPart : {X : Type 0} → (Shape → X) → Type 0
 IsPart part = (op : Op) (s h : Shape) → part s ≡ part h → part (shape_after op s) ≡ part (shape_after op h)
 
-module _ {P V C U X : Type 0} (part : Shape → X) (goes : IsPart part) (R : Reading P V C U Shape) (plans : Plans P V U Shape) (geometry : Geometry) (left : ℕ → Leaving) (none : (a : ℕ) → (left a).kept ≡ None) (first : ℕ) (origins : ℕ → ℕ) (new_origins : (h : ℕ) → first ≤ h → origins h ≡ 0) (g : ℕ) (m : Net) (vs : ℕ → View) (t : Story) (b : Books) (e : Entry) (plain : IsPlainEntry e) (may : MayEnter geometry.n m e) (kept : EntryKept m b e) (k : Reaches geometry first origins m vs t b) (f : File P V C U Shape) (s : Bare) (heads : f.heads ≡ (vs g).core) (sh : Beside geometry.n (quorum geometry) g m (vs g) f s) (posts : SamePosts g m.said (vs g).of t (vs g).core) (one : PostsInOneTurn g m (vs g)) (unmade : (t.tree g).kind ≡ None → IsUnmade geometry.n g m (t.tree g)) (makes : (i : ℕ) (x : Message) (q : Request) → m.said i ≡ Some x → x.body ≡ ToBrick q → MakesNew part R.new g q) (ops : (i : ℕ) (x : Message) (q : Request) → m.said i ≡ Some x → x.body ≡ ToBrick q → is_post_on g q ≡ true → part (f.becomes ((vs g).of i)) ≡ part (shape_after (op_of m x.call) (f.took ((vs g).of i)))) (track : Tracks part R.new s (t.tree g)) where
+module _ {P V C U X : Type 0} (origin : ℕ) (part : Shape → X) (goes : IsPart part) (R : Reading P V C U Shape) (plans : Plans P V U Shape) (geometry : Geometry) (left : ℕ → Leaving) (none : (a : ℕ) → (left a).kept ≡ None) (first : ℕ) (origins : ℕ → ℕ) (new_origins : (h : ℕ) → first ≤ h → origins h ≡ 0) (g : ℕ) (m : Net) (vs : ℕ → View) (t : Story) (b : Books) (e : Entry) (plain : IsPlainEntry e) (may : MayEnter geometry.n m e) (kept : EntryKept m b e) (k : Reaches geometry first origins m vs t b) (f : File P V C U Shape) (s : Bare) (heads : f.heads ≡ (vs g).core) (sh : Beside geometry.n (quorum geometry) g m (vs g) f s) (posts : SamePosts g m.said (vs g).of t (vs g).core) (one : PostsInOneTurn g m (vs g)) (unmade : (t.tree g).kind ≡ None → IsUnmade geometry.n g m (t.tree g)) (makes : (i : ℕ) (x : Message) (q : Request) → m.said i ≡ Some x → x.body ≡ ToBrick q → MakesNew part R.new g q) (ops : (i : ℕ) (x : Message) (q : Request) → m.said i ≡ Some x → x.body ≡ ToBrick q → is_post_on g q ≡ true → part (f.becomes ((vs g).of i)) ≡ part (shape_after (op_of m x.call) (f.took ((vs g).of i)))) (track : Tracks origin part R.new s (t.tree g)) where
   abbrev v : View
   v = vs g
 
@@ -131,8 +133,8 @@ module _ {P V C U X : Type 0} (part : Shape → X) (goes : IsPart part) (R : Rea
   zero_size : (t.tree g).kind ≡ None → (t.tree g).size ≡ 0
   zero_size e = ap (λ (x : FlatFile). x.size) (unmade e).blank_is
 
-  still : (h : Bare) (y : FlatFile) → Stays new s h → SameShown part new (t.tree g) y → Tracks part new h y
-  still h y a c = record { version = a.version ∙ (track.version ∙ sym c.version); shape = ap part a.shape ∙ (track.shape ∙ sym c.shape) }
+  still : (h : Bare) (y : FlatFile) → Stays new s h → SameShown part new (t.tree g) y → Tracks origin part new h y
+  still h y a c = record { version = a.version ∙ (track.version ∙ sym c.version); shape = ap part a.shape ∙ (track.shape ∙ sym c.shape); unmarked = λ h. ap is_marked c.version ∙ track.unmarked h }
 
   -- ## A request that a brick executes
 
@@ -167,8 +169,8 @@ module _ {P V C U X : Type 0} (part : Shape → X) (goes : IsPart part) (R : Rea
     its_runs : Runs n q' (its_acts geometry g m v msg q version failed) v.core
     its_runs = subst (λ (z : Body). Runs n q' (acts_of_request g m v msg z version failed) v.core) x.at.body (subst (λ (o : Option Message). Runs n q' (acts_executed g m v o version failed) v.core) x.at.said runs)
 
-    no_post : IsNoPost geometry g m v msg q version failed → Tracks part new its_file ((executes geometry m t msg (Some q) version failed).tree g)
-    no_post p = still its_file ((outcome geometry m t msg q version failed).tree g) (easy_stays new P0 n q' g (its_acts geometry g m v msg q version failed) s p.easy) (outcome_shown part new g geometry m t msg q version failed p.not_done zero_size (makes i msg q x.at.said x.at.body))
+    no_post : IsNoPost geometry g m v msg q version failed → Tracks origin part new its_file ((executes geometry m t msg (Some q) version failed).tree g)
+    no_post p = still its_file ((outcome geometry m t msg q version failed).tree g) (easy_stays new P0 n q' g (its_acts geometry g m v msg q version failed) s p.easy) (outcome_shown part new g geometry m t msg q version failed p.not_done (new_keeps part new g q (t.tree g) zero_size (makes i msg q x.at.said x.at.body)))
 
     -- ## A PostOp that is done
 
@@ -230,7 +232,7 @@ module _ {P V C U X : Type 0} (part : Shape → X) (goes : IsPart part) (R : Rea
           ∙ (track.shape
           ∙ ap (λ (o : Option Kind). part (shown_of o new (tree_shape (t.tree g)))) kind.1)))
 
-      commit : is_marked p.old ≡ false → commits geometry.n (quorum geometry) s.heads (v.of i) msg.brick ≡ true → Tracks part new its_file (committed (quorum geometry) msg.call p.new (change (quorum geometry) (op_of m msg.call) (t.found msg.call) g (t.tree g)) (t.tree g))
+      commit : is_marked p.old ≡ false → commits geometry.n (quorum geometry) s.heads (v.of i) msg.brick ≡ true → Tracks origin part new its_file (committed (quorum geometry) msg.call p.new (change (quorum geometry) (op_of m msg.call) (t.found msg.call) g (t.tree g)) (t.tree g))
       commit u d =
           let made = subst (λ (h : Bare). Becomes new s h (v.of i)) (sym (acts_are false u)) (posted_becomes new P0 n q' g (v.of i) msg.brick p.rest s p.easy d) in
           let kind = kind_there u (t.tree g).kind refl in
@@ -245,15 +247,16 @@ module _ {P V C U X : Type 0} (part : Shape → X) (goes : IsPart part) (R : Rea
                 ∙ (goes (op_of m msg.call) (f.took (v.of i)) (tree_shape (t.tree g)) (took_is u d)
                 ∙ (ap part (change_shape (quorum geometry) (op_of m msg.call) (t.found msg.call) g msg.call p.new (t.tree g))
                 ∙ sym (ap (λ (o : Option Kind). part (shown_of o new x1)) kind.1))))));
+            unmarked = λ h. p.mark ∙ u;
           }
 
-      a_post : Tracks part new its_file ((executes geometry m t msg (Some q) version failed).tree g)
-      a_post = subst (λ (u : Story). Tracks part new its_file (u.tree g)) (sym (post_told geometry g m v t msg q version failed p)) (by (is_marked p.old) (is_commit geometry t msg.call g msg.brick) refl refl)
+      a_post : Tracks origin part new its_file ((executes geometry m t msg (Some q) version failed).tree g)
+      a_post = subst (λ (u : Story). Tracks origin part new its_file (u.tree g)) (sym (post_told geometry g m v t msg q version failed p)) (by (is_marked p.old) (is_commit geometry t msg.call g msg.brick) refl refl)
         where
-          by : (c d : Bool) → is_marked p.old ≡ c → is_commit geometry t msg.call g msg.brick ≡ d → Tracks part new its_file ((post_done geometry m t msg.call g msg.brick p.new).tree g)
-          by true d u w = subst (λ (z : Story). Tracks part new its_file (z.tree g)) (sym (sunk_told geometry g m v t msg q version failed p u)) (still its_file (t.tree g) (subst (λ (h : Bare). Stays new s h) (sym (acts_are true u)) (sunk_stays new P0 n q' g (v.of i) msg.brick p.rest s p.easy)) (same_shown part new (t.tree g)))
-          by false true u w = subst (λ (z : FlatFile). Tracks part new its_file z) (sym (committed_tree geometry m t msg.call g msg.brick p.new (unmarked_there geometry g m v t msg q version failed p u) w)) (commit u (sym commits_are ∙ w))
-          by false false u w = subst (λ (z : FlatFile). Tracks part new its_file z) (sym (uncommitted_tree geometry m t msg.call g msg.brick p.new (unmarked_there geometry g m v t msg q version failed p u) w)) (still its_file (t.tree g) (subst (λ (h : Bare). Stays new s h) (sym (acts_are false u)) (posted_stays new P0 n q' g (v.of i) msg.brick p.rest s p.easy (sym commits_are ∙ w))) (same_shown part new (t.tree g)))
+          by : (c d : Bool) → is_marked p.old ≡ c → is_commit geometry t msg.call g msg.brick ≡ d → Tracks origin part new its_file ((post_done geometry m t msg.call g msg.brick p.new).tree g)
+          by true d u w = subst (λ (z : Story). Tracks origin part new its_file (z.tree g)) (sym (sunk_told geometry g m v t msg q version failed p u)) (still its_file (t.tree g) (subst (λ (h : Bare). Stays new s h) (sym (acts_are true u)) (sunk_stays new P0 n q' g (v.of i) msg.brick p.rest s p.easy)) (same_shown part new (t.tree g)))
+          by false true u w = subst (λ (z : FlatFile). Tracks origin part new its_file z) (sym (committed_tree geometry m t msg.call g msg.brick p.new (unmarked_there geometry g m v t msg q version failed p u) w)) (commit u (sym commits_are ∙ w))
+          by false false u w = subst (λ (z : FlatFile). Tracks origin part new its_file z) (sym (uncommitted_tree geometry m t msg.call g msg.brick p.new (unmarked_there geometry g m v t msg q version failed p u) w)) (still its_file (t.tree g) (subst (λ (h : Bare). Stays new s h) (sym (acts_are false u)) (posted_stays new P0 n q' g (v.of i) msg.brick p.rest s p.easy (sym commits_are ∙ w))) (same_shown part new (t.tree g)))
 
       -- the story says so where it commits
       commits_then : story_commits geometry m t (Executed i version failed) ≡ true → part (f.took (v.of i)) ≡ part (tree_shape (t.tree g))
@@ -273,10 +276,10 @@ module _ {P V C U X : Type 0} (part : Shape → X) (goes : IsPart part) (R : Rea
           by false true u y z = took_is u (sym commits_are ∙ y)
           by false false u y z = absurd (let w = sym (ap (λ (z : Bool). z && is_commit geometry t msg.call g msg.brick) (unmarked_there geometry g m v t msg q version failed p u)) ∙ z in let w2 = sym y ∙ w in cc)
 
-    executed_then : IsNoPost geometry g m v msg q version failed ⊎ IsPost geometry g m v msg q version failed → Tracks part new (file_of (m.said i)) ((told_executed geometry m t (m.said i) version failed).tree g)
-    executed_then o = subst (λ (u : Story). Tracks part new (file_of (m.said i)) (u.tree g)) (sym told_is) (subst (λ (h : Bare). Tracks part new h ((executes geometry m t msg (Some q) version failed).tree g)) (sym file_is) (by o))
+    executed_then : IsNoPost geometry g m v msg q version failed ⊎ IsPost geometry g m v msg q version failed → Tracks origin part new (file_of (m.said i)) ((told_executed geometry m t (m.said i) version failed).tree g)
+    executed_then o = subst (λ (u : Story). Tracks origin part new (file_of (m.said i)) (u.tree g)) (sym told_is) (subst (λ (h : Bare). Tracks origin part new h ((executes geometry m t msg (Some q) version failed).tree g)) (sym file_is) (by o))
       where
-        by : IsNoPost geometry g m v msg q version failed ⊎ IsPost geometry g m v msg q version failed → Tracks part new its_file ((executes geometry m t msg (Some q) version failed).tree g)
+        by : IsNoPost geometry g m v msg q version failed ⊎ IsPost geometry g m v msg q version failed → Tracks origin part new its_file ((executes geometry m t msg (Some q) version failed).tree g)
         by (inl p) = no_post p
         by (inr p) = a_post p
 
@@ -302,14 +305,14 @@ module _ {P V C U X : Type 0} (part : Shape → X) (goes : IsPart part) (R : Rea
   Next x = file_after R0 P0 n q' g m v s x
 
   abbrev Then : Entry → Type 0
-  Then x = Tracks part new (Next x) ((told geometry m t x).tree g)
+  Then x = Tracks origin part new (Next x) ((told geometry m t x).tree g)
 
   -- entries by which no brick does a request
-  quiet : (es : List Act) → Easy es → Tracks part new (acted es) (t.tree g)
+  quiet : (es : List Act) → Easy es → Tracks origin part new (acted es) (t.tree g)
   quiet es easy = still (acted es) (t.tree g) (easy_stays new P0 n q' g es s easy) (same_shown part new (t.tree g))
 
   sent_then : (msg : Message) → Then (Sent msg)
-  sent_then msg = subst (λ (y : Tree). Tracks part new (Next (Sent msg)) (y g)) (sym (said_same t msg.call msg.body).1) (still (Next (Sent msg)) (t.tree g) (body msg.body) (same_shown part new (t.tree g)))
+  sent_then msg = subst (λ (y : Tree). Tracks origin part new (Next (Sent msg)) (y g)) (sym (said_same t msg.call msg.body).1) (still (Next (Sent msg)) (t.tree g) (body msg.body) (same_shown part new (t.tree g)))
     where
       es : List Act
       es = acts g m v (Sent msg)
@@ -327,7 +330,7 @@ module _ {P V C U X : Type 0} (part : Shape → X) (goes : IsPart part) (R : Rea
 
   torn_then : (i count : ℕ) (version : Option ℕ) → Then (Torn i count version)
   torn_then i count version =
-      subst (λ (ds : List (Deed ⊥ (Unit {0}) (Unit {0}) (Unit {0}) Shape)). Tracks part new (after_deeds bare_form n q' (ds ++ map (dressed R0 P0 n q' g) (acts_torn (m.said i))) s) ((told geometry m t (Torn i count version)).tree g)) (sym (no_torn R plans geometry g left m v t b f s (k.reached g) heads sh (m.said i) count version))
+      subst (λ (ds : List (Deed ⊥ (Unit {0}) (Unit {0}) (Unit {0}) Shape)). Tracks origin part new (after_deeds bare_form n q' (ds ++ map (dressed R0 P0 n q' g) (acts_torn (m.said i))) s) ((told geometry m t (Torn i count version)).tree g)) (sym (no_torn R plans geometry g left m v t b f s (k.reached g) heads sh (m.said i) count version))
       (still (acted (acts_torn (m.said i))) ((told geometry m t (Torn i count version)).tree g) (easy_stays new P0 n q' g (acts_torn (m.said i)) s (easy_torn (m.said i))) (torn_shown part new g geometry m t (m.said i) version))
 
   entry_runs : Runs n q' (acts g m v e) v.core

@@ -50,6 +50,15 @@ module _ {X : Type 0} (part : Shape → X) (new : Shape) where
       by None e = record { version = refl; shape = ap (λ (z : ℕ). part (record { size = z; attr = new_attr kind })) (zero e) ∙ (sym fits ∙ sym (ap (λ (o : Option Kind). part (shown_of o new (tree_shape flat))) e)) }
       by (Some k) e = same_shown flat
 
+  -- and leaves a flat file as it counted before
+  abbrev pub MakeKeeps : ℕ → Request → Flat → Type 0
+  MakeKeeps g (Make x n child) flat = child.gfid.0 ≡ g → SameShown flat (made child.kind flat)
+  MakeKeeps g q flat = Unit {0}
+
+  pub new_keeps : (g : ℕ) (q : Request) (flat : Flat) → (flat.kind ≡ None → flat.size ≡ 0) → MakesNew g q → MakeKeeps g q flat
+  new_keeps g (Make x n child) flat zero fits = λ on. made_shown child.kind flat zero (fits on)
+  new_keeps g q flat zero fits = tt
+
   module _ (g : ℕ) where
     abbrev pub Same : Story → Story → Type 0
     Same t u = SameShown (t.tree g) (u.tree g)
@@ -78,13 +87,13 @@ module _ {X : Type 0} (part : Shape → X) (new : Shape) where
           commit : Flat → Flat
           commit flat = committed (quorum geometry) msg.call version (change (quorum geometry) (op_of m msg.call) (t.found msg.call) x flat) flat
 
-      done_shown : (q : Request) → is_post_on g q ≡ false → ((t.tree g).kind ≡ None → (t.tree g).size ≡ 0) → MakesNew g q → Same t (done_by geometry m t msg q)
-      done_shown (WriteChunks x n first chunks) other zero fits = opens_shown x.0 _
-      done_shown (SetLength x n keep count) other zero fits = opens_shown x.0 _
-      done_shown (NameSet x n name child) other zero fits = same_if t (with_flat t x.0 (name_opened name)) t (is_at_flat m t msg.brick x.0) (with_same t x.0 (name_opened name) (λ on. record { version = refl; shape = refl })) (same_shown (t.tree g))
-      done_shown (Make x n child) other zero fits = with_same t child.gfid.0 (made child.kind) (λ on. made_shown child.kind (t.tree g) zero (fits on))
-      done_shown (PostOp x n at version size attr) other zero fits = posted_shown x.0 version other
-      done_shown q other zero fits = same_shown (t.tree g)
+      done_shown : (q : Request) → is_post_on g q ≡ false → MakeKeeps g q (t.tree g) → Same t (done_by geometry m t msg q)
+      done_shown (WriteChunks x n first chunks) other keeps = opens_shown x.0 _
+      done_shown (SetLength x n keep count) other keeps = opens_shown x.0 _
+      done_shown (NameSet x n name child) other keeps = same_if t (with_flat t x.0 (name_opened name)) t (is_at_flat m t msg.brick x.0) (with_same t x.0 (name_opened name) (λ on. record { version = refl; shape = refl })) (same_shown (t.tree g))
+      done_shown (Make x n child) other keeps = with_same t child.gfid.0 (made child.kind) (λ on. keeps on)
+      done_shown (PostOp x n at version size attr) other keeps = posted_shown x.0 version other
+      done_shown q other keeps = same_shown (t.tree g)
 
       failed_shown : (q : Request) (version : Option ℕ) → Same t (failed_by m t msg q version)
       failed_shown (WriteChunks x n first chunks) (Some version) = opens_shown x.0 _
@@ -97,12 +106,12 @@ module _ {X : Type 0} (part : Shape → X) (new : Shape) where
       cut_shown q version = same_shown (t.tree g)
 
       -- a request by which no call commits on the gfid
-      pub outcome_shown : (q : Request) (version : Option ℕ) (failed : Bool) → (is_done (out_of m msg q version failed).says && is_post_on g q) ≡ false → ((t.tree g).kind ≡ None → (t.tree g).size ≡ 0) → MakesNew g q → Same t (outcome geometry m t msg q version failed)
-      outcome_shown q version true quiet zero fits = failed_shown q version
-      outcome_shown q version false quiet zero fits = by (is_done (out_of m msg q version false).says) quiet
+      pub outcome_shown : (q : Request) (version : Option ℕ) (failed : Bool) → (is_done (out_of m msg q version failed).says && is_post_on g q) ≡ false → MakeKeeps g q (t.tree g) → Same t (outcome geometry m t msg q version failed)
+      outcome_shown q version true quiet keeps = failed_shown q version
+      outcome_shown q version false quiet keeps = by (is_done (out_of m msg q version false).says) quiet
         where
           by : (d : Bool) → (d && is_post_on g q) ≡ false → Same t (cond d (done_by geometry m t msg q) t)
-          by true e = done_shown q e zero fits
+          by true e = done_shown q e keeps
           by false e = same_shown (t.tree g)
 
     pub torn_shown : (geometry : Geometry) (m : Net) (t : Story) (o : Option Message) (version : Option ℕ) → Same t (told_torn m t o version)

@@ -63,7 +63,7 @@ PlanParts part plans g m v = (i : ℕ) (x : Message) (q : Request) → m.said i 
 abbrev pub MakesAre : {X : Type 0} → (Shape → X) → Shape → ℕ → Net → Type 0
 MakesAre part new g m = (i : ℕ) (x : Message) (q : Request) → m.said i ≡ Some x → x.body ≡ ToBrick q → MakesNew part new g q
 
-module _ {P V C U X : Type 0} (part : Shape → X) (R : Reading P V C U Shape) (plans : Plans P V U Shape) (geometry : Geometry) (g : ℕ) where
+module _ {P V C U X : Type 0} (origin : ℕ) (part : Shape → X) (R : Reading P V C U Shape) (plans : Plans P V U Shape) (geometry : Geometry) (g : ℕ) where
   -- what is known at a moment of a log
   pub record Front (m : Net) (vs : ℕ → View) (t : Story) (f : File P V C U Shape) (s : Bare) : Type 0 where
     pub heads : f.heads ≡ (vs g).core
@@ -72,15 +72,15 @@ module _ {P V C U X : Type 0} (part : Shape → X) (R : Reading P V C U Shape) (
     pub unmade : (t.tree g).kind ≡ None → IsUnmade geometry.n g m (t.tree g)
     pub becomes : AsBecomes R plans geometry.n (quorum geometry) g f
     pub took : AsTook R plans geometry.n (quorum geometry) g f
-    pub track : Tracks part R.new s (t.tree g)
+    pub track : Tracks origin part R.new s (t.tree g)
 
   -- and at its end
   pub record Ends (m : Net) (v : View) (t : Story) (f : File P V C U Shape) : Type 0 where
     pub machine : Bare
     pub beside : Beside geometry.n (quorum geometry) g m v f machine
-    pub track : Tracks part R.new machine (t.tree g)
+    pub track : Tracks origin part R.new machine (t.tree g)
 
-module _ {P V C U X : Type 0} (part : Shape → X) (goes : IsPart part) (R : Reading P V C U Shape) (plans : Plans P V U Shape) (geometry : Geometry) (left : ℕ → Leaving) (none : (a : ℕ) → (left a).kept ≡ None) (first : ℕ) (origins : ℕ → ℕ) (new_origins : (h : ℕ) → first ≤ h → origins h ≡ 0) (g : ℕ) where
+module _ {P V C U X : Type 0} (origin : ℕ) (part : Shape → X) (goes : IsPart part) (R : Reading P V C U Shape) (plans : Plans P V U Shape) (geometry : Geometry) (left : ℕ → Leaving) (none : (a : ℕ) → (left a).kept ≡ None) (first : ℕ) (origins : ℕ → ℕ) (new_origins : (h : ℕ) → first ≤ h → origins h ≡ 0) (g : ℕ) where
   abbrev n : ℕ
   n = geometry.n
 
@@ -88,7 +88,7 @@ module _ {P V C U X : Type 0} (part : Shape → X) (goes : IsPart part) (R : Rea
   q' = quorum geometry
 
   -- an entry of a log, before others
-  module _ (e : Entry) (es : List Entry) (m : Net) (vs : ℕ → View) (t : Story) (b : Books) (f : File P V C U Shape) (s : Bare) (runs : IsRun geometry.n (e ∷ es) m) (plain : ArePlain (e ∷ es)) (kept : Kept geometry left none (books geometry left (e ∷ es) m t b)) (k : Reaches geometry first origins m vs t b) (at : Front part R plans geometry g m vs t f s) (one : Always (PostsInOneTurn g) g (e ∷ es) m (vs g)) (makes : MakesAre part R.new g (run (e ∷ es) m)) (ops : PlanParts part plans g (run (e ∷ es) m) (view g (e ∷ es) m (vs g))) where
+  module _ (e : Entry) (es : List Entry) (m : Net) (vs : ℕ → View) (t : Story) (b : Books) (f : File P V C U Shape) (s : Bare) (runs : IsRun geometry.n (e ∷ es) m) (plain : ArePlain (e ∷ es)) (kept : Kept geometry left none (books geometry left (e ∷ es) m t b)) (k : Reaches geometry first origins m vs t b) (at : Front origin part R plans geometry g m vs t f s) (one : Always (PostsInOneTurn g) g (e ∷ es) m (vs g)) (makes : MakesAre part R.new g (run (e ∷ es) m)) (ops : PlanParts part plans g (run (e ∷ es) m) (view g (e ∷ es) m (vs g))) where
     p : IsPlainEntry e × ArePlain es
     p = plain_first e es plain
 
@@ -131,13 +131,13 @@ module _ {P V C U X : Type 0} (part : Shape → X) (goes : IsPart part) (R : Rea
     bare_next = file_after (of_shapes R.new) (bare_plans plans f) n q' g m (vs g) s e
 
     shaped : EntryShaped part plans.took geometry g m (vs g) t e
-    shaped = by e (shaped_now part goes R plans geometry left none first origins new_origins g m vs t b e p.0 runs.0 kept' k f s at.heads at.beside at.posts one_now at.unmade now_makes its_op at.track)
+    shaped = by e (shaped_now origin part goes R plans geometry left none first origins new_origins g m vs t b e p.0 runs.0 kept' k f s at.heads at.beside at.posts one_now at.unmade now_makes its_op at.track)
       where
         by : (z : Entry) → EntryShaped part f.took geometry g m (vs g) t z → EntryShaped part plans.took geometry g m (vs g) t z
         by (Executed i version failed) h = λ y q its body on w. ap part (sym (its_group i y q its body on)) ∙ h y q its body on w
         by z h = tt
 
-    next : AllOweShape R.form n q' (deeds R plans n q' g m (vs g) f e) f → Front part R plans geometry g (net_after m e) (λ h. seen_after h m (vs h) e) (told geometry m t e) file_next bare_next
+    next : AllOweShape R.form n q' (deeds R plans n q' g m (vs g) f e) f → Front origin part R plans geometry g (net_after m e) (λ h. seen_after h m (vs h) e) (told geometry m t e) file_next bare_next
     next owes = record {
       heads = entry_heads R plans n q' g m (vs g) f e at.heads;
       beside = beside_then R plans geometry g left m (vs g) t b f s (k.reached g) at.heads at.beside e runs.0 (gone geometry left none first origins new_origins m vs t b e p.0 runs.0 kept' k g).runs (reached_then geometry left none first origins new_origins m vs t b e p.0 runs.0 kept' k g) owes;
@@ -145,13 +145,13 @@ module _ {P V C U X : Type 0} (part : Shape → X) (goes : IsPart part) (R : Rea
       unmade = unmade_goes geometry g m (vs g) b t e runs.0 (k.reached g) at.unmade;
       becomes = as_entry R plans n q' g m (vs g) f e at.becomes;
       took = entry_takes R plans n q' g m (vs g) f e at.took;
-      track = tracks_then part goes R plans geometry left none first origins new_origins g m vs t b e p.0 runs.0 kept' k f s at.heads at.beside at.posts one_now at.unmade now_makes its_op at.track;
+      track = tracks_then origin part goes R plans geometry left none first origins new_origins g m vs t b e p.0 runs.0 kept' k f s at.heads at.beside at.posts one_now at.unmade now_makes its_op at.track;
     }
 
-  pub walk : (es : List Entry) (m : Net) (vs : ℕ → View) (t : Story) (b : Books) (f : File P V C U Shape) (s : Bare) → IsRun geometry.n es m → ArePlain es → Kept geometry left none (books geometry left es m t b) → Reaches geometry first origins m vs t b → Front part R plans geometry g m vs t f s → Always (PostsInOneTurn g) g es m (vs g)
+  pub walk : (es : List Entry) (m : Net) (vs : ℕ → View) (t : Story) (b : Books) (f : File P V C U Shape) (s : Bare) → IsRun geometry.n es m → ArePlain es → Kept geometry left none (books geometry left es m t b) → Reaches geometry first origins m vs t b → Front origin part R plans geometry g m vs t f s → Always (PostsInOneTurn g) g es m (vs g)
       → AllOweShape R.form geometry.n (quorum geometry) (all_deeds R plans geometry.n (quorum geometry) g es m (vs g) f) f
       → MakesAre part R.new g (run es m) → PlanParts part plans g (run es m) (view g es m (vs g))
-      → AllShaped part plans.took geometry g es m (vs g) t × Ends part R plans geometry g (run es m) (view g es m (vs g)) (story geometry es m t) (file R plans geometry.n (quorum geometry) g es m (vs g) f)
+      → AllShaped part plans.took geometry g es m (vs g) t × Ends origin part R plans geometry g (run es m) (view g es m (vs g)) (story geometry es m t) (file R plans geometry.n (quorum geometry) g es m (vs g) f)
   walk [] m vs t b f s runs plain kept k at one owe makes ops = (tt, record { machine = s; beside = at.beside; track = at.track })
   walk (e ∷ es) m vs t b f s runs plain kept k at one owe makes ops =
       let owes = owe_shape_both R.form n q' (deeds R plans n q' g m (vs g) f e) (all_deeds R plans n q' g es (net_after m e) (seen_after g m (vs g) e) (file_after R plans n q' g m (vs g) f e)) f owe in

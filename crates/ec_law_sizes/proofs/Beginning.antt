@@ -28,6 +28,7 @@ use Rattle.ec_law_data.specs.Forms.{Shape, shape_in}
 use Rattle.ec_law_data.specs.Laws.{begun, begun_file}
 use Rattle.ec_law_data.specs.Reading.{Plans, Reading}
 use Rattle.ec_law_data.proofs.Directories.{no_record}
+use Rattle.ec_law_heads.proofs.Blank.{IsUnmade}
 use Rattle.ec_law_shapes.specs.Shadows.{Bare, bare_form}
 use Rattle.ec_law_sizes.specs.Sizes.{tree_shape}
 use Rattle.ec_law_sizes.proofs.Beside.{Beside}
@@ -106,6 +107,12 @@ module _ {P V C U X : Type 0} (part : Shape → X) (R : Reading P V C U Shape) (
       by false None e is = absurd (not_new e is)
       by false (Some kind) e is = ap (λ (z : Bool). part (cond (not z) flat.shape R.new)) e ∙ (shape ∙ sym (ap (λ (z : Option Kind). part (shown_of z R.new (tree_shape (tree g)))) is))
 
+  pub first_unmade : (from_before (tree g)).kind ≡ None → IsUnmade config.geometry.n g (fresh bricks) (from_before (tree g))
+  first_unmade unmade = record {
+    blank_is = ap from_before (start.elsewhere g (unmade_first unmade));
+    none = λ b lt. ap (λ (m : Records). head_at m g) (start.opened b lt).kept ∙ ap (option_map (λ (r : Record). r.head)) (unmade_first unmade b lt);
+  }
+
   -- no turn of the log has a ballot as it begins
   pub no_ballot : AsTook R plans n q' g first_file
   no_ballot a begun' number = absurd (none ((begun config records tree next g).core.moment a) refl)
@@ -122,10 +129,7 @@ module _ {P V C U X : Type 0} (part : Shape → X) (R : Reading P V C U Shape) (
     heads = ap (λ (origin : ℕ). begin_state config.geometry.n origin (first_heads config.geometry.n records g) (is_new config.geometry.n records g) (λ a. a)) version;
     beside = beside;
     posts = record { posted = λ i x q is body on b. absurd (some_none x (sym is)); from = λ a b e. absurd (cc) };
-    unmade = λ unmade. record {
-      blank_is = ap from_before (start.elsewhere g (unmade_first unmade));
-      none = λ b lt. ap (λ (m : Records). head_at m g) (start.opened b lt).kept ∙ ap (option_map (λ (r : Record). r.head)) (unmade_first unmade b lt);
-    };
+    unmade = first_unmade;
     becomes = λ a h. absurd (cc);
     took = no_ballot;
     track = track;

@@ -97,7 +97,7 @@ turn_is g v msg begun = by (turn_after g v msg msg.call) refl
     by (Some t) e = e ∙ ap (λ (y : ℕ). Some y) (sym (ap (λ (o : Option ℕ). unwrap_or o 0) e))
 
 -- a PostOp on the gfid
-post_is : (g : ℕ) (q : Request) → is_post_on g q ≡ true → {P : Type 0} → ((y : Gfid) (k at version size : ℕ) (attr : Option Attr) → q ≡ PostOp y k at version size attr → y.0 ≡ g → P) → P
+pub post_is : (g : ℕ) (q : Request) → is_post_on g q ≡ true → {P : Type 0} → ((y : Gfid) (k at version size : ℕ) (attr : Option Attr) → q ≡ PostOp y k at version size attr → y.0 ≡ g → P) → P
 post_is g (PostOp y k at version size attr) on f = f y k at version size attr refl (equal y.0 g on)
 post_is g q on f = absurd (cc)
 

@@ -12,5 +12,6 @@ pub mod Asked
 pub mod Choosing
 pub mod Extending
 pub mod NewShapes
+pub mod Marked
 pub mod Records
 pub mod Worlds

@@ -1,22 +1,26 @@
--- Each unmarked record at the flat version has the flat size and the flat attribute, after every log.
-use Rattle.std.proofs.Common.{◌≡◌, ℕ, ◌+◌, ◌<◌, Bool, true, false, not, cond, ◌==◌, ◌&&◌, Option, Some, None, List, [], ◌∷◌, refl, sym, ◌∙◌, ap, subst, arith}
+-- Each record at the flat version has the flat size and the flat attribute, after every log.
+use Rattle.std.proofs.Common.{◌≡◌, ℕ, ◌+◌, ◌^◌, ◌<◌, ◌≤◌, Bool, true, false, not, cond, ◌==◌, ◌&&◌, Option, Some, None, List, [], ◌∷◌, refl, sym, ◌∙◌, ap, subst, arith}
 use Rattle.std.proofs.lemmas.Bool.Decides.{nat_tests}
 use Rattle.std.specs.Option.{option_map}
-use Rattle.ec_attr.specs.Marks.{is_marked}
+use Rattle.ec_attr.specs.Marks.{is_marked, stripped}
 use Rattle.ec_attr.specs.declared.attr.Attr.{Attr}
 use Rattle.ec_attr.specs.declared.config.Config.{Config}
+use Rattle.ec_attr.specs.declared.head.Head.{Head}
 use Rattle.ec_attr.specs.declared.kind.Kind.{Kind}
 use Rattle.ec_brick.specs.State.{State as Brick}
 use Rattle.ec_conduct.specs.Given.{quorum}
 use Rattle.ec_history.specs.Accounts.{books, no_books}
-use Rattle.ec_history.specs.Flat.{Flat as FlatFile, Tree}
+use Rattle.ec_history.specs.Flat.{Flat as FlatFile, Tree, from_before}
 use Rattle.ec_history.specs.Flat.Opener.{Nobody}
 use Rattle.ec_history.specs.IsRun.{IsRun}
 use Rattle.ec_history.specs.Run.{Net, after as net_after, fresh, run}
 use Rattle.ec_history.specs.Starts.{IsStart}
 use Rattle.ec_history.specs.Story.{opening, story}
-use Rattle.ec_store.specs.Records.{Record, Records}
+use Rattle.ec_store.specs.Records.{Record, Records, head_at}
 use Rattle.ec_wire.specs.declared.entry.Entry.{Entry}
+use Rattle.ec_wire.specs.declared.message.Body.TheVariants.{ToBrick}
+use Rattle.ec_wire.specs.declared.request.Request.{Request}
+use Rattle.ec_wire.specs.declared.request.Request.TheVariants.{PostOp}
 use Rattle.ec_law_base.specs.State.{State}
 use Rattle.ec_law_ballots.specs.Begin.{is_plain}
 use Rattle.ec_law_ballots.specs.Words.{head}
@@ -29,7 +33,7 @@ use Rattle.ec_law_net.specs.Turns.{View, seen_after, view}
 use Rattle.ec_law_net.proofs.Starting.{starts_linked}
 use Rattle.ec_law_turns.specs.Laws.{Always}
 use Rattle.ec_law_turns.specs.Orderly.{ArePlain, IsOrderly}
-use Rattle.ec_law_turns.proofs.Basics.{some_none}
+use Rattle.ec_law_turns.proofs.Basics.{some_is, some_none}
 use Rattle.ec_law_turns.proofs.Groups.{plain as plain_version}
 use Rattle.ec_law_turns.proofs.Origins.{unversioned}
 use Rattle.ec_law_data.specs.Deeds.{file}
@@ -39,6 +43,7 @@ use Rattle.ec_law_data.proofs.Directories.{at_version}
 use Rattle.ec_law_data.proofs.OrderlyDeeds.{all_reach}
 use Rattle.ec_law_data.proofs.Reaching.{Reaches, reaches_start}
 use Rattle.ec_law_heads.specs.Laws.{MakesOneKind, copies_after, flat_after}
+use Rattle.ec_law_heads.proofs.Bounds.{has_limit}
 use Rattle.ec_law_heads.proofs.Logs.{head_laws}
 use Rattle.ec_law_shapes.specs.Shadows.{Bare, bare_form, of_shapes}
 use Rattle.ec_law_shapes.specs.Shapes.{head_shape, shape_after}
@@ -46,10 +51,11 @@ use Rattle.ec_law_shapes.proofs.Logs.{laws as shape_laws}
 use Rattle.ec_law_sizes.specs.Records.{OneKindAndTurn, RecordSizeLaws}
 use Rattle.ec_law_sizes.specs.Sizes.{tree_shape}
 use Rattle.ec_law_sizes.proofs.Choosing.{ShapePlans}
-use Rattle.ec_law_sizes.proofs.Extending.{Extends, Has, extended, shapes_fit, whole}
+use Rattle.ec_law_sizes.proofs.Extending.{Extends, Has, extended, post_is, shapes_fit, whole}
 use Rattle.ec_law_sizes.proofs.NewShapes.{makes_are, new_shape}
 use Rattle.ec_law_sizes.proofs.Logs.{part_log}
-use Rattle.ec_law_sizes.proofs.Beginning.{no_ballot}
+use Rattle.ec_law_sizes.proofs.Beginning.{first_unmade, no_ballot}
+use Rattle.ec_law_sizes.proofs.Marked.{Frozen, NoPosts, frozen}
 use Rattle.ec_law_sizes.proofs.Steps.{IsPart}
 use Rattle.ec_law_sizes.proofs.Telling.{shown_of}
 use Rattle.ec_law_sizes.proofs.Walking.{Ends, MakesAre}
@@ -184,9 +190,71 @@ module _ (config : Config) (records : ℕ → Records) (bricks : ℕ → Brick) 
       kind (Some k) e = ap (λ (o : Option Kind). shown_of o new (tree_shape x)) e
       kind None e = absurd (no_record (sym ((head_laws.unmade config records bricks tree next g es start runs plain orderly tt e).1 b lt) ∙ is))
 
+  -- ## From a marked flat version
+
+  least : (y : ℕ) → y < 2 ^ 61 → is_marked y ≡ false
+  least y lt = grind (arith, nat_tests)
+
+  raised : (y number z : ℕ) → y + number ≡ z → z < 2 ^ 61 → y < 2 ^ 61
+  raised y number z e lt = omega (arith, e, lt)
+
+  at_most : (y z : ℕ) → y ≤ z → z < 2 ^ 61 → y < 2 ^ 61
+  at_most y z le lt = omega (arith, le, lt)
+
+  -- no turn stands on it
+  no_posts : is_marked (tree g).version ≡ true → NoPosts g m
+  no_posts marked i msg q said body on = post_is g q on (λ y j at to size attr same here.
+      let own = body ∙ ap (λ (r : Request). ToBrick r) same in
+      let told = (end_reaches.reached g).shown.asked i msg (PostOp y j at to size attr) said own here in
+      let limit = has_limit config.geometry g m v (books config.geometry orderly.left es (fresh bricks) (opening tree next) no_books) (end_reaches.reached g) i msg (PostOp y j at to size attr) said own here in
+      let low = raised (v.core.ballot (v.of i)).base (v.core.ballot (v.of i)).number (stripped to) told.target limit in
+      let le = (ends.beside.inv.wide.origin_le (v.of i) (subst (λ (s : State). 0 < (s.ballot (v.of i)).number) (sym core) told.ballot)).0 in
+      let le' = subst (λ (s : State). s.origin ≤ (s.ballot (v.of i)).base) core le in
+      let origin = at_most v.core.origin (v.core.ballot (v.of i)).base le' low in
+      let unmarked = least (tree g).version (subst (λ (y : ℕ). y < 2 ^ 61) (end_reaches.fresh g).same origin) in
+      absurd (let w = sym unmarked ∙ marked in cc))
+
+  record_of : (records : Records) (h : Head) → head_at records g ≡ Some h → (r : Record) × (records g ≡ Some r) × (r.head ≡ h)
+  record_of records h e = by (records g) refl e
+    where
+      by : (o : Option Record) → records g ≡ o → option_map (λ r. r.head) o ≡ Some h → (r : Record) × (records g ≡ Some r) × (r.head ≡ h)
+      by None is z = absurd (cc)
+      by (Some r) is z = (r, is, some_is r.head h z)
+
+  first_frozen : Frozen config.geometry.n g (tree g).version (tree_shape (tree g)) (fresh bricks) (from_before (tree g))
+  first_frozen = record {
+    at = refl;
+    shown = by (tree g).kind;
+    unmade = first_unmade whole (of_shapes new) first_plans config records bricks tree next g start first_flat (λ b p. tt) stands refl refl;
+    heads = λ b h lt is at.
+        let r = record_of (bricks b).records h is in
+        let hd = (start.stand g).heads b r.0 lt (sym (ap (λ (z : Records). z g) (start.opened b lt).kept) ∙ r.1) (ap (λ (z : Head). z.version.content) r.2 ∙ at) in
+        ap head_shape (sym r.2) ∙ alike r.0.head.size (tree g).size r.0.head.attr (tree g).attr hd.size hd.attr;
+  }
+    where
+      by : (o : Option Kind) → shown_of o (tree_shape (tree g)) (tree_shape (tree g)) ≡ tree_shape (tree g)
+      by None = refl
+      by (Some kind) = refl
+
+  end_frozen : is_marked (tree g).version ≡ true → Frozen config.geometry.n g (tree g).version (tree_shape (tree g)) m x
+  end_frozen marked = frozen config.geometry orderly.left orderly.none_kept next (λ h. (tree h).version) (λ h le. unversioned config records bricks tree next h start le) g (tree g).version marked (tree_shape (tree g)) es (fresh bricks) (λ h. begun config records tree next h) (opening tree next) no_books runs plain (λ a given h. (orderly.conduct a given h, orderly.order a given h)) begin_reaches (no_posts marked) first_frozen
+
+  pub each_sized : (b : ℕ) (r : Record) → b < config.geometry.n → copies_after es bricks g b ≡ Some r → r.head.version.content ≡ (flat_after config es bricks tree next g).version → head_shape r.head ≡ tree_shape (flat_after config es bricks tree next g)
+  each_sized b r lt is at = by (is_marked (tree g).version) refl
+    where
+      kind : (shape : Shape) (o : Option Kind) → x.kind ≡ o → shown_of x.kind shape (tree_shape x) ≡ tree_shape x
+      kind shape (Some k) e = ap (λ (o : Option Kind). shown_of o shape (tree_shape x)) e
+      kind shape None e = absurd (some_none r (sym is ∙ (head_laws.unmade config records bricks tree next g es start runs plain orderly tt e).1 b lt))
+
+      by : (t : Bool) → is_marked (tree g).version ≡ t → head_shape r.head ≡ tree_shape x
+      by false e = record_sized b r lt is (ap is_marked at ∙ ends.track.unmarked e) at
+      by true e =
+          let f = end_frozen e in
+          f.heads b r.head lt (ap (option_map (λ (r : Record). r.head)) is) (at ∙ f.at) ∙ (sym f.shown ∙ kind (tree_shape (tree g)) x.kind refl)
+
 pub record_size_laws : RecordSizeLaws
 record_size_laws = record {
-  sized = λ config records bricks tree next g es start runs plain orderly steady b r lt is unmarked at.
-      let same = record_sized config records bricks tree next g es start runs plain orderly steady b r lt is unmarked at in
+  sized = λ config records bricks tree next g es start runs plain orderly steady b r lt is at.
+      let same = each_sized config records bricks tree next g es start runs plain orderly steady b r lt is at in
       (ap (λ (s : Shape). s.size) same, ap (λ (s : Shape). s.attr) same);
 }

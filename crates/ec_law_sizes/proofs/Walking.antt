@@ -156,5 +156,5 @@ module _ {P V C U X : Type 0} (origin : ℕ) (part : Shape → X) (goes : IsPart
   walk (e ∷ es) m vs t b f s runs plain kept k at one owe makes ops =
       let owes = owe_shape_both R.form n q' (deeds R plans n q' g m (vs g) f e) (all_deeds R plans n q' g es (net_after m e) (seen_after g m (vs g) e) (file_after R plans n q' g m (vs g) f e)) f owe in
       let rest = walk es (net_after m e) (λ h. seen_after h m (vs h) e) (told geometry m t e) (booked geometry left m t b e) (file_after R plans n q' g m (vs g) f e) (file_after (of_shapes R.new) (bare_plans plans f) n q' g m (vs g) s e) runs.1 (p e es m vs t b f s runs plain kept k at one makes ops).1 kept
-          (k' e es m vs t b f s runs plain kept k at one makes ops) (next e es m vs t b f s runs plain kept k at one makes ops owes.0) one.1 owes.1 makes ops in
+      (k' e es m vs t b f s runs plain kept k at one makes ops) (next e es m vs t b f s runs plain kept k at one makes ops owes.0) one.1 owes.1 makes ops in
       ((shaped e es m vs t b f s runs plain kept k at one makes ops, rest.0), rest.1)

@@ -1,4 +1,4 @@
--- What the unmarked records of a gfid at the flat version have of the flat file's size and attribute, after every log and at each moment of
+-- What the records of a gfid at the flat version have of the flat file's size and attribute, after every log and at each moment of
 -- the log of every world.
 use Rattle.std.specs.Prelude.{ℕ, List}
 use Rattle.ec_attr.specs.declared.config.Config.{Config}

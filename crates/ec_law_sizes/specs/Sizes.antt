@@ -1,6 +1,5 @@
 -- The size and the attribute of a flat file, beside those of the machine of pieces and of the records.
-use Rattle.std.specs.Prelude.{◌≡◌, ℕ, ◌<◌, true, false, Some}
-use Rattle.ec_attr.specs.Marks.{is_marked}
+use Rattle.std.specs.Prelude.{◌≡◌, ℕ, ◌<◌, true, Some}
 use Rattle.ec_attr.specs.declared.config.Config.{Config}
 use Rattle.ec_conduct.specs.Ballots.{size_after}
 use Rattle.ec_history.specs.Flat.{Flat as FlatFile}
@@ -23,6 +22,6 @@ tree_shape x = record { size = x.size; attr = x.attr }
 abbrev pub PlanSizes : {P V U : Type 0} → Plans P V U Shape → ℕ → Net → View → Type 0
 PlanSizes plans g m v = (i : ℕ) (x : Message) (q : Request) → m.said i ≡ Some x → x.body ≡ ToBrick q → is_post_on g q ≡ true → (plans.plan (v.of i)).becomes.size ≡ size_after (op_of m x.call) (plans.took (v.of i)).size
 
--- each unmarked record at the flat version has the flat size and the flat attribute
+-- each record at the flat version has the flat size and the flat attribute
 abbrev pub AreSized : Config → Copies → FlatFile → Type 0
-AreSized config copies flat = (b : ℕ) (r : Record) → b < config.geometry.n → copies b ≡ Some r → is_marked r.head.version.content ≡ false → r.head.version.content ≡ flat.version → (r.head.size ≡ flat.size) × (r.head.attr ≡ flat.attr)
+AreSized config copies flat = (b : ℕ) (r : Record) → b < config.geometry.n → copies b ≡ Some r → r.head.version.content ≡ flat.version → (r.head.size ≡ flat.size) × (r.head.attr ≡ flat.attr)

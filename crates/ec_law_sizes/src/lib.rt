@@ -25,16 +25,15 @@ pub fn size_laws<P, V, C, U>()
     ensures { (R : Reading P V C U Shape) → R.new.size ≡ 0 → SizeLaws R }
 {}
 
-/// After every such log in which besides the Makes of a call on the gfid are of one kind: each unmarked record at the flat version has
-/// the size and the attribute of the flat file, of a file, a directory or neither. It does nothing when it runs.
+/// After every such log in which besides the Makes of a call on the gfid are of one kind: each record at the flat version has the size
+/// and the attribute of the flat file, be it a file, a directory or neither. It does nothing when it runs.
 #[tactic(auto, using(crate::proofs::Records::record_size_laws))]
 pub fn record_size_laws()
     ensures { RecordSizeLaws }
 {}
 
 /// Let a cluster and its clients, which run built calls, be as what has come of the log says, and the log a run over bricks that stand
-/// for a tree. Then at each moment of it, of each gfid, each unmarked record at the flat version has the size and the attribute of the
-/// flat file. It does nothing when it runs.
+/// for a tree. Then at each moment of it, of each gfid, each record at the flat version has the size and the attribute of the flat file. It does nothing when it runs.
 pub fn world_size_laws()
     ensures { WorldSizeLaws (⟦<AnyCall as Conduct>⟧.stands) (tabled (⟦<AnyCall as Conduct>⟧.begins) (⟦<AnyCall as Conduct>⟧.goes)) }
 {

@@ -33,7 +33,8 @@ pub fn record_size_laws()
 {}
 
 /// Let a cluster and its clients, which run built calls, be as what has come of the log says, and the log a run over bricks that stand
-/// for a tree. Then at each moment of it, of each gfid, each record at the flat version has the size and the attribute of the flat file. It does nothing when it runs.
+/// for a tree. Then at each moment of it, of each gfid, each record at the flat version has the size and the attribute of the flat
+/// file. It does nothing when it runs.
 pub fn world_size_laws()
     ensures { WorldSizeLaws (⟦<AnyCall as Conduct>⟧.stands) (tabled (⟦<AnyCall as Conduct>⟧.begins) (⟦<AnyCall as Conduct>⟧.goes)) }
 {

@@ -1,0 +1,17 @@
+pub mod Taking
+pub mod Becoming
+pub mod Later
+pub mod Beside
+pub mod Showing
+pub mod Telling
+pub mod Steps
+pub mod Walking
+pub mod Beginning
+pub mod Logs
+pub mod Asked
+pub mod Choosing
+pub mod Extending
+pub mod NewShapes
+pub mod Marked
+pub mod Records
+pub mod Worlds

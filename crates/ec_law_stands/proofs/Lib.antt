@@ -1,0 +1,11 @@
+pub mod Silent
+pub mod Origins
+pub mod Parts
+pub mod Flats
+pub mod Changes
+pub mod Still
+pub mod Sides
+pub mod Zeros
+pub mod Holding
+pub mod Marks
+pub mod Worlds

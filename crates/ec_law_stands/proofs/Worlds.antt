@@ -39,7 +39,10 @@ use Rattle.ec_law_names.specs.Laws.{WorldNameLaws}
 use Rattle.ec_law_names.proofs.Built.{are_built}
 use Rattle.ec_law_parts.specs.Laws.{InEveryWorldsLog, WorldFlatLaws}
 use Rattle.ec_law_sizes.specs.Records.{WorldSizeLaws}
-use Rattle.ec_law_stands.specs.Laws.{BeginsWell, FileLaws, HasZerosPastSize, MayBegin, StaysUnmarked, WorldStandLaws, records_after, started_again, tree_after}
+use Rattle.ec_law_stripes.specs.Begins.{ZeroPastSize}
+use Rattle.ec_law_stripes.specs.HeldStripes.{WorldHeldLaws}
+use Rattle.ec_law_stripes.specs.Laws.{BeginLaws}
+use Rattle.ec_law_stands.specs.Laws.{BeginsWell, MayBegin, StaysUnmarked, WorldStandLaws, records_after, started_again, tree_after}
 use Rattle.ec_law_stands.specs.Others.{CodeStripes, HoldOthers, LeadNames}
 use Rattle.ec_law_stands.proofs.Holding.{hold_others}
 use Rattle.ec_law_stands.proofs.Marks.{unmarked_after}
@@ -57,7 +60,7 @@ either law false flat h k = k
 fresh_well : RestartLaws → (config : Config) → BeginsWell config (fresh_records config) root_tree
 fresh_well restart config = record {
   of_volume = λ g. restart.opened config (λ b g. None) g (root_tree g) (λ b lt x h e. absurd (cc));
-  zeros = λ g. at (HasZerosPastSize (quorum config.geometry)) (g == 1) (λ s i closed past lt. refl) (λ s i closed past lt. refl);
+  zeros = λ g. at (ZeroPastSize (quorum config.geometry)) (g == 1) (λ s i closed past lt. refl) (λ s i closed past lt. refl);
   unmarked = λ g. at (λ (x : Flat). is_marked x.version ≡ false) (g == 1) refl refl;
 }
   where
@@ -80,7 +83,7 @@ module _ (config : Config) (records : ℕ → Records) (bricks : ℕ → Brick) 
           at None e z = absurd (cc)
           at (Some r) e z = ap (λ (x : Head). x.config) (sym (some_is r.head h z)) ∙ began b r lt e
 
-module _ (stands : Ctx → Given → AnyCall → List Own → Type 0) (by_table : Ctx → Given → List Own → Type 0) (laws : WorldLaws stands by_table) (flat : WorldFlatLaws stands by_table) (heads : WorldHeadLaws stands by_table) (restart : RestartLaws) (built : CallBuiltLaws stands) (names : WorldNameLaws stands by_table) (flats : FlatNameLaws) (sizes : WorldSizeLaws stands by_table) where
+module _ (stands : Ctx → Given → AnyCall → List Own → Type 0) (by_table : Ctx → Given → List Own → Type 0) (laws : WorldLaws stands by_table) (flat : WorldFlatLaws stands by_table) (heads : WorldHeadLaws stands by_table) (restart : RestartLaws) (built : CallBuiltLaws stands) (names : WorldNameLaws stands by_table) (flats : FlatNameLaws) (sizes : WorldSizeLaws stands by_table) (begins : BeginLaws) (held : WorldHeldLaws stands by_table) where
   others : InEveryWorldsLog stands by_table (Holds HoldOthers)
   others config records bricks tree next g s c start logged es rest parts =
       let w = laws.in_order config bricks tree next s c logged es rest parts in
@@ -93,7 +96,7 @@ module _ (stands : Ctx → Given → AnyCall → List Own → Type 0) (by_table 
       let w = laws.in_order config bricks tree next s c logged es rest parts in
       unmarked_after config records bricks tree next g es start w.is_run w.plain w.orderly
 
-  module _ (files : FileLaws stands by_table) (config : Config) (records : ℕ → Records) (bricks : ℕ → Brick) (tree : Tree) (next : ℕ) (s : Cluster) (c : Clients AnyCall) (start : IsStart config records bricks tree next) (logged : IsLogged stands by_table config bricks tree next s c) (es rest : List Entry) (parts : log_of s ≡ es ++ rest) (well : BeginsWell config records tree) where
+  module _ (config : Config) (records : ℕ → Records) (bricks : ℕ → Brick) (tree : Tree) (next : ℕ) (s : Cluster) (c : Clients AnyCall) (start : IsStart config records bricks tree next) (logged : IsLogged stands by_table config bricks tree next s c) (es rest : List Entry) (parts : log_of s ≡ es ++ rest) (well : BeginsWell config records tree) where
     module _ (g : ℕ) where
       abbrev now : Flat
       now = flat_after config es bricks tree next g
@@ -118,7 +121,7 @@ module _ (stands : Ctx → Given → AnyCall → List Own → Type 0) (by_table 
           by : (o : Option Kind) → now.kind ≡ o → CodeStripes config (copies_after es bricks g) now
           by None e = other None e (is_none File)
           by (Some Dir) e = other (Some Dir) e (λ z. absurd (cc))
-          by (Some File) e = files.files config records bricks tree next g s c start logged es rest parts well.zeros e
+          by (Some File) e = held.held config records bricks tree next g s c start logged es rest parts well.zeros e
 
       no_mark : is_marked now.version ≡ false
       no_mark = unmarked config records bricks tree next g s c start logged es rest parts (well.unmarked g)
@@ -135,15 +138,15 @@ module _ (stands : Ctx → Given → AnyCall → List Own → Type 0) (by_table 
 
       rest_holds : HoldsRest config (copies_after es bricks g) now
       rest_holds = record {
-        size = λ b r lt is at. (sizes.sized config records bricks tree next g s c start logged es rest parts b r lt is (ap is_marked at ∙ no_mark) at).0;
-        attr = λ b r lt is at. (sizes.sized config records bricks tree next g s c start logged es rest parts b r lt is (ap is_marked at ∙ no_mark) at).1;
+        size = λ b r lt is at. (sizes.sized config records bricks tree next g s c start logged es rest parts b r lt is at).0;
+        attr = λ b r lt is at. (sizes.sized config records bricks tree next g s c start logged es rest parts b r lt is at).1;
         content = content;
       }
 
       stand_there : Stands config (copies_after es bricks g) now
       stand_there = heads.stand config records bricks tree next g s c start logged es rest parts (well.of_volume g) rest_holds
 
-    zero_blank : HasZerosPastSize (quorum config.geometry) blank
+    zero_blank : ZeroPastSize (quorum config.geometry) blank
     zero_blank s i closed past lt = refl
 
     abbrev none_has : ℕ → Bool
@@ -165,7 +168,7 @@ module _ (stands : Ctx → Given → AnyCall → List Own → Type 0) (by_table 
       };
       well = record {
         of_volume = λ h. heads.of_volume config records bricks tree next h s c start logged es rest parts (well.of_volume h);
-        zeros = λ h. either (HasZerosPastSize (quorum config.geometry)) (none_has h) (flat_after config es bricks tree next h) zero_blank (files.zeros config records bricks tree next h s c start logged es rest parts well.zeros);
+        zeros = λ h. either (ZeroPastSize (quorum config.geometry)) (none_has h) (flat_after config es bricks tree next h) zero_blank (begins.again config.geometry tree next es (fresh bricks) well.zeros h);
         unmarked = λ h. either (λ (x : Flat). is_marked x.version ≡ false) (none_has h) (flat_after config es bricks tree next h) refl (no_mark h);
       };
     }
@@ -175,6 +178,6 @@ module _ (stands : Ctx → Given → AnyCall → List Own → Type 0) (by_table 
     fresh_bricks = fresh_well restart;
     others = others;
     unmarked = unmarked;
-    stand = λ files config records bricks tree next g s c start logged es rest parts well. stand_there files config records bricks tree next s c start logged es rest parts well g;
-    again = λ files config records bricks tree next g s c start logged es rest parts well. again files config records bricks tree next s c start logged es rest parts well;
+    stand = λ config records bricks tree next g s c start logged es rest parts well. stand_there config records bricks tree next s c start logged es rest parts well g;
+    again = λ config records bricks tree next g s c start logged es rest parts well. again config records bricks tree next s c start logged es rest parts well;
   }

@@ -1,20 +1,17 @@
 -- The bricks of every world stand for its flat files, at each moment of its log, and so for the tree with which a further log may begin.
-use Rattle.std.specs.Prelude.{◌≡◌, ℕ, ◌+◌, ◌*◌, ◌<◌, ◌≤◌, false, Some, List}
+use Rattle.std.specs.Prelude.{◌≡◌, ℕ, ◌<◌, false, List}
 use Rattle.ec_attr.specs.Marks.{is_marked}
 use Rattle.ec_attr.specs.declared.config.Config.{Config}
-use Rattle.ec_attr.specs.declared.kind.Kind.TheVariants.{File}
 use Rattle.ec_brick.specs.State.{State as Brick}
 use Rattle.ec_brick.specs.Step.{started, stopped}
 use Rattle.ec_calls.specs.declared.any.AnyCall.{AnyCall}
 use Rattle.ec_conduct.specs.Given.{Given, quorum}
 use Rattle.ec_conduct.specs.Own.{Own}
-use Rattle.ec_history.specs.Flat.{Flat, Tree}
-use Rattle.ec_history.specs.Flat.Opener.{Nobody}
+use Rattle.ec_history.specs.Flat.{Tree}
 use Rattle.ec_history.specs.Holds.{Stands}
 use Rattle.ec_history.specs.Run.{fresh, run}
 use Rattle.ec_history.specs.Starts.{IsNextGfid, IsStart, fresh_records, root_tree}
 use Rattle.ec_store.specs.Records.{Records}
-use Rattle.ec_stripe.specs.Span.{stripe_bytes}
 use Rattle.ec_txn.specs.declared.ctx.Ctx.{Ctx}
 use Rattle.ec_wire.specs.declared.entry.Entry.{Entry}
 use Rattle.ec_law_heads.specs.Heads.{AreOfVolume}
@@ -22,37 +19,17 @@ use Rattle.ec_law_heads.specs.Laws.{copies_after, flat_after}
 use Rattle.ec_law_heads.specs.Restart.{remembered_tree}
 use Rattle.ec_law_heads.specs.Worlds.{Holds}
 use Rattle.ec_law_parts.specs.Laws.{InEveryWorldsLog}
-use Rattle.ec_law_stands.specs.Others.{CodeStripes, HoldOthers}
+use Rattle.ec_law_stands.specs.Others.{HoldOthers}
+use Rattle.ec_law_stripes.specs.Begins.{ZerosPastSizes}
 
 -- ## With what a log begins
-
--- Past the size stand zeros: each byte of a closed stripe that lies wholly past it is known to be 0.
-abbrev pub HasZerosPastSize : ℕ → Flat → Type 0
-HasZerosPastSize k x = (s i : ℕ) → x.opener s ≡ Nobody → x.size ≤ stripe_bytes k * s → i < stripe_bytes k → x.byte (stripe_bytes k * s + i) ≡ Some 0
-
-abbrev pub HaveZerosPastSizes : ℕ → Tree → Type 0
-HaveZerosPastSizes k tree = (g : ℕ) → HasZerosPastSize k (tree g)
 
 -- Beside bricks that stand for a tree: each record is of the volume, as a brick sees to that opens its store, past the sizes stand zeros,
 -- and no version of the tree has the mark of a heal.
 pub record BeginsWell (config : Config) (records : ℕ → Records) (tree : Tree) : Type 0 where
   pub of_volume : (g : ℕ) → AreOfVolume config (λ b. records b g) (tree g)
-  pub zeros : HaveZerosPastSizes (quorum config.geometry) tree
+  pub zeros : ZerosPastSizes (quorum config.geometry) tree
   pub unmarked : (g : ℕ) → is_marked (tree g).version ≡ false
-
--- ## What other laws say of the log of every world
-
--- where past the sizes stood zeros, the bricks hold each closed stripe of a flat file that is one
-abbrev pub HoldFiles : Config → (ℕ → Records) → (ℕ → Brick) → Tree → ℕ → ℕ → List Entry → Type 0
-HoldFiles config records bricks tree next g es = HaveZerosPastSizes (quorum config.geometry) tree → (flat_after config es bricks tree next g).kind ≡ Some File → CodeStripes config (copies_after es bricks g) (flat_after config es bricks tree next g)
-
--- and zeros stand there again
-abbrev pub LeavesZeros : Config → (ℕ → Records) → (ℕ → Brick) → Tree → ℕ → ℕ → List Entry → Type 0
-LeavesZeros config records bricks tree next g es = HaveZerosPastSizes (quorum config.geometry) tree → HasZerosPastSize (quorum config.geometry) (flat_after config es bricks tree next g)
-
-pub record FileLaws (stands : Ctx → Given → AnyCall → List Own → Type 0) (by_table : Ctx → Given → List Own → Type 0) : Type 0 where
-  pub files : InEveryWorldsLog stands by_table HoldFiles
-  pub zeros : InEveryWorldsLog stands by_table LeavesZeros
 
 -- ## What a log leaves
 
@@ -90,7 +67,7 @@ pub record WorldStandLaws (stands : Ctx → Given → AnyCall → List Own → T
   -- the bricks hold what the kind of a gfid has none of
   pub others : InEveryWorldsLog stands by_table (Holds HoldOthers)
   pub unmarked : InEveryWorldsLog stands by_table StaysUnmarked
-  -- so with the laws of files the bricks stand,
-  pub stand : FileLaws stands by_table → InEveryWorldsLog stands by_table StandAfter
+  -- so the bricks stand for the flat files,
+  pub stand : InEveryWorldsLog stands by_table StandAfter
   -- and a further log may begin
-  pub again : FileLaws stands by_table → InEveryWorldsLog stands by_table MayBeginAgain
+  pub again : InEveryWorldsLog stands by_table MayBeginAgain

@@ -11,9 +11,12 @@ use Rattle.ec_history.specs.Flat.{Flat}
 use Rattle.ec_history.specs.Holds.{Copies, Stands, is_at_version, is_low}
 use Rattle.ec_history.specs.Laws.{HasRows, StartLaws}
 use Rattle.ec_history.specs.Starts.{IsStart, fresh_records, root_tree}
+use Rattle.ec_law_heads.specs.Restart.{RestartLaws}
 use Rattle.ec_law_reads.specs.Rows.{row_at}
 use Rattle.ec_law_reads.specs.Stripes.{StripeLaws}
+use Rattle.ec_law_stands.specs.Laws.{BeginsWell, MayBegin}
 use Rattle.ec_run.proofs.NextLemmas.{its_records, no_records}
+use Rattle.ec_run.proofs.OfVolume.{are_of_volume}
 use Rattle.ec_run.specs.Starts.{AreStarted}
 use Rattle.ec_store.specs.Records.{Record, Records}
 
@@ -33,7 +36,7 @@ stands_same config copies more flat same s = record {
   kinds = λ b r lt is. s.kinds b r lt (sym (same b lt) ∙ is);
 }
 
-module _ (starts : StartLaws) (stripes : StripeLaws) (config : Config) (before started : List Records) (there : length before ≡ config.geometry.n) (many : length started ≡ config.geometry.n) (are : AreStarted config config.geometry.n before started) (none : (b g : ℕ) (m : Records) → b < config.geometry.n → slice_get before b ≡ Some m → m g ≡ None) where
+module _ (starts : StartLaws) (stripes : StripeLaws) (restart : RestartLaws) (fresh_well : (config : Config) → BeginsWell config (fresh_records config) root_tree) (config : Config) (before started : List Records) (there : length before ≡ config.geometry.n) (many : length started ≡ config.geometry.n) (are : AreStarted config config.geometry.n before started) (none : (b g : ℕ) (m : Records) → b < config.geometry.n → slice_get before b ≡ Some m → m g ≡ None) where
   rows : HasRows config.geometry
   rows b lt =
       let row = stripes.row (quorum config.geometry) config.geometry.algorithm b (let h = config.geometry.most in omega (arith, h)) (let h = config.geometry.bricks in omega (arith, h, lt)) in
@@ -60,8 +63,8 @@ module _ (starts : StartLaws) (stripes : StripeLaws) (config : Config) (before s
   begins : IsStart config (fresh_records config) (opened config started) root_tree 2
   begins = starts.starts config (opened config started) rows (λ b lt. record { of_volume = refl; kept = are_fresh b lt; up = refl; unlocked = refl; removed = λ g. refl })
 
-  pub stand_fresh : IsStart config records (opened config started) root_tree 2
-  stand_fresh = record {
+  start : IsStart config records (opened config started) root_tree 2
+  start = record {
     opened = λ b lt. record { of_volume = refl; kept = refl; up = refl; unlocked = refl; removed = λ g. refl };
     stand = λ g. stands_same config (λ b. fresh_records config b g) (λ b. records b g) (root_tree g) (λ b lt. ap (λ (m : Records). m g) (are_fresh b lt)) (begins.stand g);
     elsewhere = λ g nowhere. begins.elsewhere g (λ b lt. sym (ap (λ (m : Records). m g) (are_fresh b lt)) ∙ nowhere b lt);
@@ -69,5 +72,15 @@ module _ (starts : StartLaws) (stripes : StripeLaws) (config : Config) (before s
       above = λ b g lt taken. begins.next_gfid.above b g lt (subst (λ (m : Records). IsTaken m g) (are_fresh b lt) taken);
       least = inl refl;
       not_root = begins.next_gfid.not_root;
+    };
+  }
+
+  pub stand_fresh : MayBegin config records (opened config started) root_tree 2
+  stand_fresh = record {
+    start = start;
+    well = record {
+      of_volume = are_of_volume restart config before started there many are root_tree;
+      zeros = (fresh_well config).zeros;
+      unmarked = (fresh_well config).unmarked;
     };
   }

@@ -15,6 +15,7 @@ use ec_brick::StartFault;
 use ec_history::start_laws;
 use ec_law_heads::restart_laws;
 use ec_law_reads::stripe_laws;
+use ec_law_stands::world_stand_laws;
 use ec_play::{BricksWhy, Means, Status};
 use ec_store::{BrickStore, Sink, Source};
 use ec_volfile::{Kernel, Volume};
@@ -71,6 +72,7 @@ pub fn start_and_play<S: Source, O: Sink, B: BrickStore, F: Multiply, G: Combine
     restart_laws();
     start_laws();
     stripe_laws();
+    world_stand_laws();
     let world = match World::start(alloc, volume, stores) {
         Ok(world) => world,
         Err((brick, fault)) => return status_of_start(brick, fault),

@@ -25,6 +25,9 @@ use Rattle.ec_law_net.specs.Start.{first_view}
 use Rattle.ec_law_net.specs.Turns.{view}
 use Rattle.ec_law_parts.specs.Laws.{AgreesAtFlatFile}
 use Rattle.ec_law_quorum.specs.Laws.{AboveOthers, NoTwoAlike}
+use Rattle.ec_law_sizes.specs.Sizes.{AreSized}
+use Rattle.ec_law_stands.specs.Laws.{MayBeginAgain, StandAfter}
+use Rattle.ec_law_stripes.specs.HeldStripes.{StripesAreHeld}
 use Rattle.ec_store.specs.Records.{Records}
 use Rattle.ec_txn.specs.declared.ctx.Ctx.{Ctx}
 use Rattle.ec_wire.specs.declared.answer.Answer.{Answer}
@@ -50,13 +53,17 @@ abbrev pub ButForMemory : Result (Unit {0}) Refused → Type 0 → Type 0
 ButForMemory (Err NoMemory) holds = Unit {0}
 ButForMemory result holds = holds
 
--- At each moment of the log, seen from any gfid, that of a file or directory made in the log too: no two attempts to commit
--- have the same version; as one commits its version is above that of every record at a brick that didn't do its PostOp; a call
--- that was answered that it changed something has committed by then, after it was made, and by one entry alone, at which the flat
--- file becomes what the call makes of it; K records without a mark that agree have the flat file's version, the heads of all stand
--- for it, and those at its version hold each closed name of a directory; each call keeps the conduct and its order; and each call that
--- was answered has the cause of its answer, and of no other, in what it sent and heard. An attempt is a turn of which a brick did a
--- PostOp; `call` and `call_of` number those before the log.
+-- At each moment of the log, seen from any gfid, that of a file or directory made in the log too:
+-- * no two attempts to commit have the same version, and as one commits its version is above that of every record at a brick that
+--   didn't do its PostOp. An attempt is a turn of which a brick did a PostOp; `call` and `call_of` number those before the log;
+-- * a call that was answered that it changed something has committed by then, after it was made, and by one entry alone, at which the
+--   flat file becomes what the call makes of it;
+-- * K records without a mark that agree have the flat file's version, and the heads of all stand for it. Those at its version are the
+--   good group: they have its size and attribute, hold the code of each closed stripe of a file, where past the sizes stood zeros as the
+--   log began, and each closed name of a directory. Any K of them decode the stripe;
+-- * the bricks stand for the flat file, where the log began well, as with fresh bricks; and then a further log may begin with them;
+-- * each call keeps the conduct and its order; and each that was answered has the cause of its answer, and of no other, in what it
+--   sent and heard.
 pub record IsConsistent (config : Config) (records : ℕ → Records) (bricks : ℕ → State) (tree : Tree) (next : ℕ) (log : List Entry) : Type 0 where
   pub no_two_alike : (g : ℕ) (call : ℕ → ℕ) (es rest : List Entry) → log ≡ es ++ rest → NoTwoAlike config.geometry.n (quorum config.geometry) (view g es (fresh bricks) (first_view config.geometry.n (tree g).version records g call next)).core
   pub above_others : (g : ℕ) (call : ℕ → ℕ) (es rest : List Entry) → log ≡ es ++ rest → AboveOthers config.geometry.n (quorum config.geometry) (view g es (fresh bricks) (first_view config.geometry.n (tree g).version records g call next)).core
@@ -66,7 +73,11 @@ pub record IsConsistent (config : Config) (records : ℕ → Records) (bricks : 
       → CommitsOnce config.geometry bricks tree next es h.earlier h.between call h.client op g
   pub agree_at_flat_file : (g : ℕ) (es rest : List Entry) → log ≡ es ++ rest → AgreesAtFlatFile config records bricks tree next g es
   pub heads_stand : (g : ℕ) (es rest : List Entry) → log ≡ es ++ rest → Holds HeadsStand config records bricks tree next g es
+  pub sizes_held : (g : ℕ) (es rest : List Entry) → log ≡ es ++ rest → Holds AreSized config records bricks tree next g es
+  pub stripes_held : (g : ℕ) (es rest : List Entry) → log ≡ es ++ rest → StripesAreHeld config records bricks tree next g es
   pub names_held : (g : ℕ) (es rest : List Entry) → log ≡ es ++ rest → HoldsNames config records bricks tree next g es
+  pub stand : (g : ℕ) (es rest : List Entry) → log ≡ es ++ rest → StandAfter config records bricks tree next g es
+  pub may_begin_again : (es rest : List Entry) → log ≡ es ++ rest → MayBeginAgain config records bricks tree next 0 es
   pub in_order : (es rest : List Entry) → log ≡ es ++ rest → IsInOrder config bricks tree next es
   pub answered_with_cause : (es rest : List Entry) (call : ℕ) (answer : Answer) → log ≡ es ++ Answered call answer ∷ rest → HasCauseInLog config bricks tree next log call answer
 

@@ -34,6 +34,9 @@ use ec_law_commits::commit_laws;
 use ec_law_heads::world_head_laws;
 use ec_law_names::world_name_laws;
 use ec_law_parts::world_flat_laws;
+use ec_law_sizes::world_size_laws;
+use ec_law_stands::world_stand_laws;
+use ec_law_stripes::world_held_laws;
 use ec_store::BrickStore;
 use ec_txn::Conduct;
 use ec_volfile::Volume;
@@ -61,7 +64,7 @@ fn config_of(volume: &Volume) -> Config
 
 /// After the log of every world that began with bricks of its volume that stand for a tree, versions, commits and answers are consistent at each
 /// moment: what is answered as done is committed, by one entry between its call and its answer, K records that agree have the
-/// version of the flat file, and records at that version hold each closed name of a directory. It does nothing when it runs.
+/// version of the flat file, records at that version hold its closed stripes and names, and the bricks stand for it. It does nothing when it runs.
 pub fn consistency_laws()
     ensures { ConsistencyLaws (⟦<AnyCall as Conduct>⟧.stands) (tabled (⟦<AnyCall as Conduct>⟧.begins) (⟦<AnyCall as Conduct>⟧.goes)) }
 {
@@ -72,6 +75,9 @@ pub fn consistency_laws()
     world_head_laws();
     world_name_laws();
     world_cause_laws();
+    world_size_laws();
+    world_held_laws();
+    world_stand_laws();
 }
 
 /// With what the calls of a volume are begun.
@@ -169,8 +175,8 @@ impl World {
         ensures open { StaysOpen (⟦<AnyCall as Conduct>⟧.stands) (tabled (⟦<AnyCall as Conduct>⟧.begins) (⟦<AnyCall as Conduct>⟧.goes)) self.new result }
 
         // What it was begun with, and that all is consistent: no two attempts have the same version, a commit's is above those of
-        // all bricks outside it, K records that agree have that of the flat file, heads stand for it and records at it hold its
-        // closed names, each call keeps its conduct, what is answered as done is committed, and each answer has its cause.
+        // all bricks outside it, K records that agree have that of the flat file, records at it hold its closed stripes and names, the
+        // bricks stand for it, each call keeps its conduct, what is answered as done is committed, and each answer has its cause.
         ensures from { (geometry : Geometry) (first : ℕ) → BeganWith (⟦<AnyCall as Conduct>⟧.stands) (tabled (⟦<AnyCall as Conduct>⟧.begins) (⟦<AnyCall as Conduct>⟧.goes)) self.old geometry first → ButForMemory result (BeganWith (⟦<AnyCall as Conduct>⟧.stands) (tabled (⟦<AnyCall as Conduct>⟧.begins) (⟦<AnyCall as Conduct>⟧.goes)) self.new geometry first) }
         ensures consistent { (config : Config) (records : ℕ → Records) (bricks : ℕ → State) (tree : Tree) (next : ℕ)
             → IsStart config records bricks tree next → AreAllOfVolume config records tree → BeganWith (⟦<AnyCall as Conduct>⟧.stands) (tabled (⟦<AnyCall as Conduct>⟧.begins) (⟦<AnyCall as Conduct>⟧.goes)) self.old config.geometry next

@@ -42,7 +42,7 @@ returns-in-Plain-clause-ends g c =
     let are : list_all g.B.BrickStore.told c.args.stores.now ≡ true → AreStarted config c.args.volume.now.geometry.n before started = λ told. are_started config c.args.volume.now.geometry.n (length c.args.stores.now) before started c.requires.count (c.in-Ok.ensures.accepted told) (c.in-Ok.ensures.records told) (c.in-Ok.ensures.roots told) (c.in-Ok.ensures.kept told) in
     played_from _ c.args.volume.now c.args.logs before (map g.B.BrickStore.records c.play_world.new.stores) (list_all g.B.BrickStore.told c.start.new.stores) (list_all g.B.BrickStore.told c.args.stores.now) (length c.start.new.stores) started (g.S.Source.left c.args.script.now) c.play_world.result (g.O.Sink.written c.args.out.now) (g.O.Sink.written c.play_world.new.out) c.play_world.new.log
     c.start.ensures.tells (c.start.auto.stores ∙ c.requires.count)
-    are (λ told none. stand_fresh c.start_laws.ensures c.stripe_laws.ensures config before started (length-map c.args.stores.now g.B.BrickStore.records ∙ c.requires.count) (length-map c.start.new.stores g.B.BrickStore.records ∙ (c.start.auto.stores ∙ c.requires.count)) (are told) none)
+    are (λ told none. stand_fresh c.start_laws.ensures c.stripe_laws.ensures c.restart_laws.ensures c.world_stand_laws.ensures.fresh_bricks config before started (length-map c.args.stores.now g.B.BrickStore.records ∙ c.requires.count) (length-map c.start.new.stores g.B.BrickStore.records ∙ (c.start.auto.stores ∙ c.requires.count)) (are told) none)
     (λ told. run_consistent _ _ c.consistency_laws.ensures c.args.volume.now started c.in-Ok.world.clients.next_gfid c.play_world.new.log
     (λ tree next at. next_of_start config c.args.volume.now.geometry.n (length c.args.stores.now) before started c.requires.count (length-map c.args.stores.now g.B.BrickStore.records) (length-map c.start.new.stores g.B.BrickStore.records ∙ c.start.auto.stores) (c.in-Ok.ensures.records told) (list_all g.B.BrickStore.told c.args.stores.now ≡ true) told c.in-Ok.world.clients.next_gfid next c.in-Ok.ensures.next (c.in-Ok.ensures.after told) at.next_gfid)
     (are_of_volume c.restart_laws.ensures config before started (length-map c.args.stores.now g.B.BrickStore.records ∙ c.requires.count) (length-map c.start.new.stores g.B.BrickStore.records ∙ (c.start.auto.stores ∙ c.requires.count)) (are told))
@@ -57,7 +57,7 @@ returns-in-Fused-clause-ends g c =
     let are : list_all g.B.BrickStore.told c.args.stores.now ≡ true → AreStarted config c.args.volume.now.geometry.n before started = λ told. are_started config c.args.volume.now.geometry.n (length c.args.stores.now) before started c.requires.count (c.in-Ok.ensures.accepted told) (c.in-Ok.ensures.records told) (c.in-Ok.ensures.roots told) (c.in-Ok.ensures.kept told) in
     played_from _ c.args.volume.now c.args.logs before (map g.B.BrickStore.records c.play_world-in-Fused.new.stores) (list_all g.B.BrickStore.told c.start.new.stores) (list_all g.B.BrickStore.told c.args.stores.now) (length c.start.new.stores) started (g.S.Source.left c.args.script.now) c.play_world-in-Fused.result (g.O.Sink.written c.args.out.now) (g.O.Sink.written c.play_world-in-Fused.new.out) c.play_world-in-Fused.new.log
     c.start.ensures.tells (c.start.auto.stores ∙ c.requires.count)
-    are (λ told none. stand_fresh c.start_laws.ensures c.stripe_laws.ensures config before started (length-map c.args.stores.now g.B.BrickStore.records ∙ c.requires.count) (length-map c.start.new.stores g.B.BrickStore.records ∙ (c.start.auto.stores ∙ c.requires.count)) (are told) none)
+    are (λ told none. stand_fresh c.start_laws.ensures c.stripe_laws.ensures c.restart_laws.ensures c.world_stand_laws.ensures.fresh_bricks config before started (length-map c.args.stores.now g.B.BrickStore.records ∙ c.requires.count) (length-map c.start.new.stores g.B.BrickStore.records ∙ (c.start.auto.stores ∙ c.requires.count)) (are told) none)
     (λ told. run_consistent _ _ c.consistency_laws.ensures c.args.volume.now started c.in-Ok.world.clients.next_gfid c.play_world-in-Fused.new.log
     (λ tree next at. next_of_start config c.args.volume.now.geometry.n (length c.args.stores.now) before started c.requires.count (length-map c.args.stores.now g.B.BrickStore.records) (length-map c.start.new.stores g.B.BrickStore.records ∙ c.start.auto.stores) (c.in-Ok.ensures.records told) (list_all g.B.BrickStore.told c.args.stores.now ≡ true) told c.in-Ok.world.clients.next_gfid next c.in-Ok.ensures.next (c.in-Ok.ensures.after told) at.next_gfid)
     (are_of_volume c.restart_laws.ensures config before started (length-map c.args.stores.now g.B.BrickStore.records ∙ c.requires.count) (length-map c.start.new.stores g.B.BrickStore.records ∙ (c.start.auto.stores ∙ c.requires.count)) (are told))

@@ -32,7 +32,7 @@ or_none : (p s : Bool) → p ≡ false → s ≡ false → (p || s) ≡ false
 or_none true s e f = absurd (cc)
 or_none false s e f = f
 
-release_is : (test : Request → Bool) → ((g : Gfid) (n : ℕ) → test (Release g n) ≡ false) → (x : ℕ) (r : Request) → is_release r ≡ true → test r ≡ false
+pub release_is : (test : Request → Bool) → ((g : Gfid) (n : ℕ) → test (Release g n) ≡ false) → (x : ℕ) (r : Request) → is_release r ≡ true → test r ≡ false
 release_is test spares x (Release g grant) e = spares g grant
 release_is test spares x r e = absurd (cc)
 

@@ -30,7 +30,7 @@ post_no_lock : (r : Request) → is_post r ≡ true → is_lock r ≡ false
 post_no_lock (PostOp g grant old new size attr) e = refl
 post_no_lock r e = absurd (cc)
 
-fits_early : (kind : LockKind) (p : Part) (x : ℕ) (r : Request) → Fits kind p x r → is_working p ≡ false → is_final r ≡ false
+pub fits_early : (kind : LockKind) (p : Part) (x : ℕ) (r : Request) → Fits kind p x r → is_working p ≡ false → is_final r ≡ false
 fits_early kind (Locks brick) x r f t = ap is_final f.2
 fits_early kind Heads x r f t = query_not_final r f
 fits_early kind p x r f t = absurd (cc)

@@ -17,7 +17,7 @@ use Rattle.ec_wire.specs.declared.message.Body.TheVariants.{ToBrick}
 use Rattle.ec_wire.specs.declared.message.Message.{Message}
 use Rattle.ec_wire.specs.declared.request.Request.{Request}
 use Rattle.ec_wire.specs.declared.request.Request.TheVariants.{Ask, NameSet, NamesPut, PostOp, SetLength, WriteChunks}
-use Rattle.ec_law_net.specs.Turns.{View, is_lock_on, is_over, seen_after, turn_after, turn_of}
+use Rattle.ec_law_net.specs.Turns.{View, is_lock_on, is_over, seen_after, turn_after, turn_of, view}
 use Rattle.ec_law_net.proofs.Conducts.{Grows, log_grows, sent_own, together}
 use Rattle.ec_law_turns.specs.Laws.{Always}
 use Rattle.ec_law_turns.proofs.Basics.{differ, equal, put_here, put_some, put_there, some_is}
@@ -66,7 +66,7 @@ both_ways u e f = absurd (let x = sym e ∙ f in cc)
 
 module _ (geometry : Geometry) (left : ℕ → Leaving) (g : ℕ) where
   -- each call that was made by the end of these entries sends, in the whole, no ask for content after data or a PostOp
-  abbrev LeaveOff : List Entry → Net → Story → Books → Type 0
+  abbrev pub LeaveOff : List Entry → Net → Story → Books → Type 0
   LeaveOff es m t b = (a : ℕ) → is_some ((run es m).asker a) ≡ true → AsksOff is_lock ((books geometry left es m t b).own a)
 
   keep : (m k : Net) (v w : View) (b c : Books) → k.said ≡ m.said → w.turn ≡ v.turn → w.of ≡ v.of → ((a : ℕ) → Grows (b.own a) (c.own a)) → Posted g m.said v.turn v.of b.own → Posted g k.said w.turn w.of c.own
@@ -147,3 +147,9 @@ module _ (geometry : Geometry) (left : ℕ → Leaving) (g : ℕ) where
   pub always_one : (es : List Entry) (m : Net) (v : View) (t : Story) (b : Books) → IsRun geometry.n es m → LeaveOff es m t b → Posted g m.said v.turn v.of b.own → Always (DataInOneTurn g) g es m v
   always_one [] m v t b runs off h = one_turn g m v b.own h
   always_one (e ∷ es) m v t b runs off h = (one_turn g m v b.own h, always_one es (after m e) (seen_after g m v e) (told geometry m t e) (booked geometry left m t b e) runs.1 off (entry_after m v t b h e es runs.0 off))
+
+  -- which is so at each front of a log
+  pub posted_at : (es rest : List Entry) (m : Net) (v : View) (t : Story) (b : Books) → IsRun geometry.n (es ++ rest) m → LeaveOff (es ++ rest) m t b → Posted g m.said v.turn v.of b.own
+      → Posted g (run es m).said (view g es m v).turn (view g es m v).of (books geometry left es m t b).own
+  posted_at [] rest m v t b runs off h = h
+  posted_at (e ∷ es) rest m v t b runs off h = posted_at es rest (after m e) (seen_after g m v e) (told geometry m t e) (booked geometry left m t b e) runs.1 off (entry_after m v t b h e (es ++ rest) runs.0 off)

@@ -11,12 +11,16 @@ pub mod StripeLogs
 pub mod FinalScans
 pub mod FinalEnding
 pub mod FinalTables
+pub mod EmptyWrites
 pub mod FinalTurns
+pub mod SomeWrites
+pub mod MadeFiles
 pub mod HistoryPlans
 pub mod Taking
 pub mod PlannedTurns
 pub mod Ops
 pub mod FitLogs
+pub mod PlanSizes
 pub mod HoldLogs
 pub mod Worlds
 pub mod BuiltCalls

@@ -12,6 +12,7 @@ use Rattle.ec_wire.specs.declared.request.Request.{Request}
 use Rattle.ec_law_data.specs.Deeds.{is_post_on}
 use Rattle.ec_law_data.specs.Forms.{is_data}
 use Rattle.ec_law_parts.specs.LeavesOff.{SendsNone, puts_data}
+use Rattle.ec_law_stripes.specs.Given.{WritesSome}
 
 -- a request that changes data, or a PostOp
 abbrev pub is_final : Request → Bool
@@ -46,6 +47,8 @@ pub record EndsWithFinals {P : Type 0} (test : Request → Bool) (t : Table P) :
 abbrev pub IsFinalOn : ℕ → Request → Type 0
 IsFinalOn g q = (is_data g q ≡ true) ⊎ (is_post_on g q ≡ true)
 
--- Of the own entries that a call stands for: it asks for no content once it has sent data or a PostOp.
+-- Of the own entries that a call stands for: it asks for no content once it has sent data or a PostOp, and has bytes to write if it
+-- sent one of them and is a write.
 pub record CallFinalLaws (stands : Ctx → Given → AnyCall → List Own → Type 0) : Type 0 where
   pub no_asks : (x : Ctx) (given : Given) (call : AnyCall) (es : List Own) → stands x given call es → AsksOff is_lock es
+  pub some : (x : Ctx) (given : Given) (call : AnyCall) (es : List Own) → stands x given call es → has_final es ≡ true → WritesSome given.op

@@ -1,6 +1,7 @@
 -- What the bricks hold of the stripes of a flat file, after every log and at each moment of the log of every world.
 use Rattle.std.specs.Prelude.{◌≡◌, ℕ, true, false, ◌||◌, Some, List, []}
 use Rattle.ec_attr.specs.declared.config.Config.{Config}
+use Rattle.ec_attr.specs.declared.kind.Kind.TheVariants.{File}
 use Rattle.ec_brick.specs.State.{State as Brick}
 use Rattle.ec_calls.specs.declared.any.AnyCall.{AnyCall}
 use Rattle.ec_conduct.specs.Given.{Given, quorum}
@@ -10,7 +11,7 @@ use Rattle.ec_history.specs.Flat.{Tree}
 use Rattle.ec_history.specs.IsRun.{IsRun}
 use Rattle.ec_history.specs.Run.{Net, fresh, run}
 use Rattle.ec_history.specs.Starts.{IsStart}
-use Rattle.ec_history.specs.Story.{op_of, opening, story}
+use Rattle.ec_history.specs.Story.{op_of, opening}
 use Rattle.ec_store.specs.Records.{Records}
 use Rattle.ec_txn.specs.declared.ctx.Ctx.{Ctx}
 use Rattle.ec_wire.specs.declared.entry.Entry.{Entry}
@@ -22,12 +23,12 @@ use Rattle.ec_law_turns.specs.Orderly.{ArePlain, IsOrderly}
 use Rattle.ec_law_data.specs.Deeds.{is_post_on}
 use Rattle.ec_law_data.specs.Forms.{is_data}
 use Rattle.ec_law_data.specs.Laws.{begun}
-use Rattle.ec_law_files.specs.Filing.{FilePlans}
 use Rattle.ec_law_files.specs.Laws.{AllMade}
 use Rattle.ec_law_files.specs.Stripes.{Making}
 use Rattle.ec_law_flats.specs.Plans.{is_unbuilt}
-use Rattle.ec_law_flats.specs.Stripes.{AllSized, DataInOneTurn}
+use Rattle.ec_law_flats.specs.Stripes.{DataInOneTurn}
 use Rattle.ec_law_flats.specs.StripeLaws.{HoldStripes}
+use Rattle.ec_law_heads.specs.Laws.{flat_after}
 use Rattle.ec_law_parts.specs.Laws.{InEveryWorldsLog}
 use Rattle.ec_law_parts.specs.LeavesOff.{DataBeforePosts}
 use Rattle.ec_law_plans.specs.Given.{EachRequest}
@@ -42,17 +43,8 @@ AreBuiltCalls m = (c : ℕ) → is_unbuilt (op_of m c) ≡ false
 abbrev pub AllWriteSome : ℕ → Net → Type 0
 AllWriteSome g m = (i : ℕ) (x : Message) (q : Request) → m.said i ≡ Some x → x.body ≡ ToBrick q → (is_data g q || is_post_on g q) ≡ true → WritesSome (op_of m x.call)
 
--- the bricks hold each closed stripe of the flat file that these entries make
-abbrev pub HoldFile : Config → (ℕ → Brick) → Tree → ℕ → ℕ → List Entry → Type 0
-HoldFile config bricks tree next g es = HoldStripes config.geometry g (run es (fresh bricks)) ((story config.geometry es (fresh bricks) (opening tree next)).tree g)
-
--- By some plans of the turns, where the flat file has the size of a turn's group as the turn commits: the bricks hold it.
-pub record HoldSized (config : Config) (records : ℕ → Records) (bricks : ℕ → Brick) (tree : Tree) (next g : ℕ) (es : List Entry) : Type 0 where
-  pub plans : FilePlans
-  pub holds : AllSized plans.took config.geometry g es (fresh bricks) (begun config records tree next g) (opening tree next) → HoldFile config bricks tree next g es
-
 -- In every log of which `StripedInEveryLog` speaks, whose calls are built, have bytes to write, and send the data and the PostOps of
--- a gfid in one turn.
+-- a gfid in one turn: the bricks hold each closed stripe of the flat file that the log makes.
 abbrev pub HeldInEveryLog : Type 0
 HeldInEveryLog =
     (config : Config) (records : ℕ → Records) (bricks : ℕ → Brick) (tree : Tree) (next g : ℕ) (es : List Entry)
@@ -69,18 +61,13 @@ HeldInEveryLog =
     → AreBuiltCalls (run es (fresh bricks))
     → AllWriteSome g (run es (fresh bricks))
     → Always (DataInOneTurn g) g es (fresh bricks) (begun config records tree next g)
-    → HoldSized config records bricks tree next g es
+    → HoldStripes config.geometry g (run es (fresh bricks)) (flat_after config es bricks tree next g)
 
 -- ## Worlds
 
--- What is left to show of the log of a world: that the gfid is made as a file, and that a write of no bytes sends no data.
-pub record IsLeft (g : ℕ) (es : List Entry) (m : Net) : Type 0 where
-  pub files : EachRequest (MakesFile g) es
-  pub some : AllWriteSome g m
-
--- Where past the sizes stood zeros: the bricks hold each closed stripe of the flat file.
+-- Where past the sizes stood zeros, and the flat file that the log makes is a file: the bricks hold each of its closed stripes.
 abbrev pub StripesAreHeld : Config → (ℕ → Records) → (ℕ → Brick) → Tree → ℕ → ℕ → List Entry → Type 0
-StripesAreHeld config records bricks tree next g es = ZerosPastSizes (quorum config.geometry) tree → IsLeft g es (run es (fresh bricks)) → HoldSized config records bricks tree next g es
+StripesAreHeld config records bricks tree next g es = ZerosPastSizes (quorum config.geometry) tree → (flat_after config es bricks tree next g).kind ≡ Some File → HoldStripes config.geometry g (run es (fresh bricks)) (flat_after config es bricks tree next g)
 
 -- the data requests and the PostOps of a call on the gfid are of one turn
 abbrev pub AlwaysDataInOneTurn : Config → (ℕ → Records) → (ℕ → Brick) → Tree → ℕ → ℕ → List Entry → Type 0

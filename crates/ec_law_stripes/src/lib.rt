@@ -15,6 +15,7 @@ ghost use Rattle.std.specs.Prelude.{ℕ};
 use ec_calls::AnyCall;
 use ec_law_calls::{call_laws, world_laws};
 use ec_law_files::world_stripe_laws;
+use ec_law_heads::world_head_laws;
 use ec_law_parts::world_data_laws;
 use ec_txn::Conduct;
 
@@ -41,14 +42,14 @@ pub fn striped_laws()
     ensures { StripedInEveryLog }
 {}
 
-/// After every such log whose calls are built, have bytes to write, and send the data and the PostOps of a gfid in one turn: there are
-/// plans so that, where the flat file has the size of a turn's group as the turn commits, the bricks hold each closed stripe of the
-/// flat file that the log makes. It does nothing when it runs.
+/// After every such log whose calls are built, have bytes to write, and send the data and the PostOps of a gfid in one turn: the bricks
+/// hold each closed stripe of the flat file that the log makes. It does nothing when it runs.
 pub fn held_stripe_laws()
     ensures { HeldInEveryLog }
 {}
 
-/// A built call asks for no content once it has sent data or a PostOp. It does nothing when it runs.
+/// A built call asks for no content once it has sent data or a PostOp, and it sends neither if it is a write of no bytes. It does
+/// nothing when it runs.
 pub fn call_final_laws()
     ensures { CallFinalLaws (⟦<AnyCall as Conduct>⟧.stands) }
 {}
@@ -60,8 +61,7 @@ pub fn call_built_laws()
 
 /// Let a cluster and its clients, which run built calls, be as what has come of the log says, and the log a run over bricks that stand
 /// for a tree. Then at each moment of it the data requests and the PostOps of a call on a gfid are of one turn; and so the bricks hold
-/// each closed stripe of each flat file that the log makes, where past the sizes stood zeros and the rest is as `IsLeft` and
-/// `HoldSized` say. It does nothing when it runs.
+/// each closed stripe of each file that the log makes, where past the sizes stood zeros. It does nothing when it runs.
 pub fn world_held_laws()
     ensures { WorldHeldLaws (⟦<AnyCall as Conduct>⟧.stands) (tabled (⟦<AnyCall as Conduct>⟧.begins) (⟦<AnyCall as Conduct>⟧.goes)) }
 {
@@ -69,6 +69,7 @@ pub fn world_held_laws()
     world_laws();
     world_data_laws();
     world_stripe_laws();
+    world_head_laws();
     held_stripe_laws();
     call_final_laws();
     call_built_laws();

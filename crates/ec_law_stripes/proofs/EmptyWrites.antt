@@ -10,7 +10,7 @@ use Rattle.ec_conduct.specs.Account.{Account, after}
 use Rattle.ec_conduct.specs.Given.{Given, bricks_of}
 use Rattle.ec_conduct.specs.Opened.{account, opened}
 use Rattle.ec_conduct.specs.Own.{Own}
-use Rattle.ec_conduct.specs.Table.{IsByTable, IsByTurns, Send, Step, Turned, entries_of, step_entries}
+use Rattle.ec_conduct.specs.Table.{IsByTable, IsByTurns, Send, Step, Turned, step_entries}
 use Rattle.ec_txn.specs.Rounds.{Asks, give_back, round, subject, unlock, where_so}
 use Rattle.ec_txn.specs.Tables.{Begins, Goes}
 use Rattle.ec_txn.specs.declared.ctx.Ctx.{Ctx}
@@ -27,7 +27,7 @@ use Rattle.ec_write.specs.Range.{data_of, off_of, told_end}
 use Rattle.ec_write.specs.Write.{WriteFollows, WriteJudges, asks_of, judged, write_table}
 use Rattle.ec_write.specs.declared.stage.WriteStage.{WriteStage}
 use Rattle.ec_write.specs.declared.stage.WriteStage.TheVariants as writes
-use Rattle.ec_law_calls.proofs.Asking.{go_is, go_say, go_when, opening_fits, opening_part, where_is}
+use Rattle.ec_law_calls.proofs.Asking.{go_is, go_say, opening_fits, opening_part, where_is}
 use Rattle.ec_law_calls.proofs.Clean.{Each}
 use Rattle.ec_law_calls.proofs.Sends.{IsRelease, each_append, each_round, each_weaker, give_back_releases, unlock_releases}
 use Rattle.ec_law_turns.proofs.Allowed.{account_given, after_given}

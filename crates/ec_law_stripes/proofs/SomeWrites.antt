@@ -18,11 +18,10 @@ use Rattle.ec_history.specs.Accounts.{Books, Leaving, books, no_books}
 use Rattle.ec_history.specs.Flat.{Tree}
 use Rattle.ec_history.specs.IsRun.{IsRun}
 use Rattle.ec_history.specs.Run.{Asker, Net, after as net_after, fresh, run}
-use Rattle.ec_history.specs.Story.{Story, asked_for, op_of, opening, story, told}
+use Rattle.ec_history.specs.Story.{Story, asked_for, op_of, opening, story}
 use Rattle.ec_history.proofs.Runs.{rest as rest_runs}
 use Rattle.ec_txn.specs.declared.ctx.Ctx.{Ctx}
 use Rattle.ec_wire.specs.declared.entry.Entry.{Entry}
-use Rattle.ec_wire.specs.declared.message.Body.TheVariants.{ToBrick}
 use Rattle.ec_wire.specs.declared.message.Message.{Message}
 use Rattle.ec_wire.specs.declared.request.Request.{Request}
 use Rattle.ec_law_calls.specs.World.{IsLogged}

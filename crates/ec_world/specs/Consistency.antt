@@ -1,5 +1,5 @@
 -- What a world was begun with, and what that says of its bricks and answers at each moment of its log.
-use Rattle.std.specs.Prelude.{◌≡◌, ℕ, List, ◌∷◌, ◌++◌, Result, Ok, Err}
+use Rattle.std.specs.Prelude.{◌≡◌, ℕ, true, List, ◌∷◌, ◌++◌, Result, Ok, Err}
 use Rattle.ec_attr.specs.declared.config.Config.{Config}
 use Rattle.ec_attr.specs.declared.geometry.Geometry.{Geometry}
 use Rattle.ec_brick.specs.State.{State}
@@ -12,7 +12,8 @@ use Rattle.ec_conduct.specs.Given.{Given, quorum}
 use Rattle.ec_conduct.specs.Own.{Own}
 use Rattle.ec_history.specs.Flat.{Tree}
 use Rattle.ec_history.specs.IsRun.{IsRun}
-use Rattle.ec_history.specs.Run.{fresh}
+use Rattle.ec_history.specs.Run.{fresh, run}
+use Rattle.ec_history.specs.Script.{Step, entries_of}
 use Rattle.ec_history.specs.Starts.{IsStart}
 use Rattle.ec_law_answers.specs.Answered.{CommitsBetween, IsAnswered, SaysChanged, until}
 use Rattle.ec_law_calls.specs.World.{IsInOrder}
@@ -25,6 +26,8 @@ use Rattle.ec_law_net.specs.Start.{first_view}
 use Rattle.ec_law_net.specs.Turns.{view}
 use Rattle.ec_law_parts.specs.Laws.{AgreesAtFlatFile}
 use Rattle.ec_law_quorum.specs.Laws.{AboveOthers, NoTwoAlike}
+use Rattle.ec_law_settled.specs.Answered.{LooksUp}
+use Rattle.ec_law_settled.specs.Settled.{IsSettledCall}
 use Rattle.ec_law_sizes.specs.Sizes.{AreSized}
 use Rattle.ec_law_stands.specs.Laws.{MayBeginAgain, StandAfter}
 use Rattle.ec_law_stripes.specs.HeldStripes.{StripesAreHeld}
@@ -62,6 +65,8 @@ ButForMemory result holds = holds
 --   good group: they have its size and attribute, hold the code of each closed stripe of a file, where past the sizes stood zeros as the
 --   log began, and each closed name of a directory. Any K of them decode the stripe;
 -- * the bricks stand for the flat file, where the log began well, as with fresh bricks; and then a further log may begin with them;
+-- * a stat, getattr or lookup that was made while nothing else was under way is answered by the end of the `settle` after it, whichever
+--   bricks are up and whatever their stores do;
 -- * each call keeps the conduct and its order; and each that was answered has the cause of its answer, and of no other, in what it
 --   sent and heard.
 pub record IsConsistent (config : Config) (records : ℕ → Records) (bricks : ℕ → State) (tree : Tree) (next : ℕ) (log : List Entry) : Type 0 where
@@ -78,6 +83,8 @@ pub record IsConsistent (config : Config) (records : ℕ → Records) (bricks : 
   pub names_held : (g : ℕ) (es rest : List Entry) → log ≡ es ++ rest → HoldsNames config records bricks tree next g es
   pub stand : (g : ℕ) (es rest : List Entry) → log ≡ es ++ rest → StandAfter config records bricks tree next g es
   pub may_begin_again : (es rest : List Entry) → log ≡ es ++ rest → MayBeginAgain config records bricks tree next 0 es
+  pub settled_is_answered : (earlier : List Entry) (call client : ℕ) (op : Op) (called : Step) (steps : List Step) → log ≡ earlier ++ entries_of (called ∷ steps)
+      → IsSettledCall config.geometry.n (run earlier (fresh bricks)) call client op called steps → LooksUp op → (run log (fresh bricks)).answered call ≡ true
   pub in_order : (es rest : List Entry) → log ≡ es ++ rest → IsInOrder config bricks tree next es
   pub answered_with_cause : (es rest : List Entry) (call : ℕ) (answer : Answer) → log ≡ es ++ Answered call answer ∷ rest → HasCauseInLog config bricks tree next log call answer
 

@@ -34,6 +34,7 @@ use ec_law_commits::commit_laws;
 use ec_law_heads::world_head_laws;
 use ec_law_names::world_name_laws;
 use ec_law_parts::world_flat_laws;
+use ec_law_settled::world_answered_laws;
 use ec_law_sizes::world_size_laws;
 use ec_law_stands::world_stand_laws;
 use ec_law_stripes::world_held_laws;
@@ -78,6 +79,7 @@ pub fn consistency_laws()
     world_size_laws();
     world_held_laws();
     world_stand_laws();
+    world_answered_laws();
 }
 
 /// With what the calls of a volume are begun.

@@ -1,0 +1,51 @@
+// Calls that are settled: made while nothing else is under way, and followed by `settle`.
+//
+// `Settled` says which calls these are, and `Serving` which bricks can serve them and what they are to be answered then. `Calm` says
+// what comes of each entry of such a call, and `Laws` what follows of all. `Asks` says how often a call asks a brick for a lock, `Worlds` and
+// `Answered` what follows of the log of a world. Nothing of it runs.
+#![tactic(auto)]
+
+ghost use Rattle.ec_clients.specs.Calls.{tabled};
+ghost use Rattle.ec_law_settled.specs.Answered.{AnsweredInEveryWorld, LooksUp, CallWaitLaws};
+ghost use Rattle.ec_law_settled.specs.Asks.{CallAskLaws};
+ghost use Rattle.ec_law_settled.specs.Laws.{OfEverySettledCall, SettledLaws};
+ghost use Rattle.ec_law_settled.specs.Worlds.{OfEveryWorldsCall};
+
+use ec_calls::AnyCall;
+use ec_txn::Conduct;
+
+/// In each log that is a run, of the entries of each settled call: no brick stops, each lock is granted at once, messages are lost
+/// and given up only where their brick is stopped, and each other is delivered; and a call that isn't answered waits for nobody. It
+/// does nothing when it runs.
+#[tactic(auto, using(crate::proofs::Laws::laws))]
+pub fn settled_laws()
+    ensures { SettledLaws OfEverySettledCall }
+{}
+
+/// A built call asks each brick for a lock at most once. It does nothing when it runs.
+pub fn call_ask_laws()
+    ensures { CallAskLaws (⟦<AnyCall as Conduct>⟧.stands) }
+{}
+
+/// Let a cluster and its clients, which run built calls, be as what has come of the log says, and the log a run. Then the same holds of
+/// each settled call in it, and nothing is asked of what clients send. It does nothing when it runs.
+pub fn world_settled_laws()
+    ensures { SettledLaws (OfEveryWorldsCall (⟦<AnyCall as Conduct>⟧.stands) (tabled (⟦<AnyCall as Conduct>⟧.begins) (⟦<AnyCall as Conduct>⟧.goes))) }
+{
+    settled_laws();
+    call_ask_laws();
+}
+
+/// As long as a stat, getattr or lookup has no answer, it waits for a brick. It does nothing when it runs.
+pub fn call_wait_laws()
+    ensures { CallWaitLaws LooksUp (⟦<AnyCall as Conduct>⟧.stands) }
+{}
+
+/// A settled stat, getattr or lookup is answered, whichever bricks are up and whatever their stores do: of every world whose log ends with its
+/// entries and those of the `settle` after it. It does nothing when it runs.
+pub fn world_answered_laws()
+    ensures { AnsweredInEveryWorld LooksUp (⟦<AnyCall as Conduct>⟧.stands) (tabled (⟦<AnyCall as Conduct>⟧.begins) (⟦<AnyCall as Conduct>⟧.goes)) }
+{
+    call_wait_laws();
+    world_settled_laws();
+}

@@ -426,7 +426,7 @@ linked_end config records bricks tree next g es start runs plain orderly =
     most = let h = config.geometry.majority in omega (arith, h)
 
 module _ {P V C U S : Type 0} where
-  by_log : (R : Reading P V C U S) → Fits R → (law : ℕ → ℕ → File P V C U S → Type 0) → AfterEveryRun R.form law → AfterEveryOwedLog R law
+  pub by_log : (R : Reading P V C U S) → Fits R → (law : ℕ → ℕ → File P V C U S → Type 0) → AfterEveryRun R.form law → AfterEveryOwedLog R law
   by_log R fits law holds plans config records bricks tree next g es start runs plain orderly flat shape piece st version owes =
       subst (λ (f : File P V C U S). law config.geometry.n (quorum config.geometry) f) (sym (lead_on R plans config.geometry.n (quorum config.geometry) g es (fresh bricks) (begun config records tree next g) f0))
       (holds config.geometry.n (quorum config.geometry) most (omega arith) flat (first_heads config.geometry.n records g) (is_new config.geometry.n records g) (λ a. a) shape piece st (all_deeds R plans config.geometry.n (quorum config.geometry) g es (fresh bricks) (begun config records tree next g) f0)

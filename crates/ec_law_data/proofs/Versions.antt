@@ -176,7 +176,7 @@ module _ (n k g : ℕ) where
   bare_log [] m v f = tt
   bare_log (e ∷ es) m v f = bares_both (deeds of_versions no_plans n k g m v f e) _ (bares_both (data_deeds of_versions no_plans n k g m v f e) _ (bare_data m v f e) (bare_acts (acts g m v e))) (bare_log es (net_after m e) (seen_after g m v e) (file_after of_versions no_plans n k g m v f e))
 
-by_log : (law : ℕ → ℕ → File ⊥ (Unit {0}) (Unit {0}) (Unit {0}) (Unit {0}) → Type 0) → AfterEveryOwedLog of_versions law → AfterEveryOrderlyLog law
+pub by_log : (law : ℕ → ℕ → File ⊥ (Unit {0}) (Unit {0}) (Unit {0}) (Unit {0}) → Type 0) → AfterEveryOwedLog of_versions law → AfterEveryOrderlyLog law
 by_log law holds config records bricks tree next g es start runs plain orderly =
     holds no_plans config records bricks tree next g es start runs plain orderly (bare (tree g).version) (λ b. tt) (λ b p. tt) stands refl
     (all_owe_nothing config.geometry.n (quorum config.geometry) (all_deeds of_versions no_plans config.geometry.n (quorum config.geometry) g es (fresh bricks) _ (versions_begun config records tree g)) (versions_begun config records tree g) (bare_log config.geometry.n (quorum config.geometry) g es (fresh bricks) _ (versions_begun config records tree g)))

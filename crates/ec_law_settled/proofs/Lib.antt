@@ -15,5 +15,6 @@ pub mod Waking
 pub mod WakingOpenings
 pub mod WakingMembers
 pub mod WakingNames
+pub mod WakingServes
 pub mod Unbooked
 pub mod Answered

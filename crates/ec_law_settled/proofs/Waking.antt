@@ -113,13 +113,14 @@ joined_new f h y r e k = ap (λ (o : Option Request). cond (is_some o) o (h y)) 
 abbrev pub Someone : Given → Asks → Type 0
 Someone given f = (y : ℕ) × (y < bricks_of given) × (is_some (f y) ≡ true)
 
--- Each stage begins with a brick that it asks; `here given p c f` is what is kept of account c, at which stage p asked f.
-pub record Wakes {P : Type 0} (x : Ctx) (t : Table P) (during : P → Account → Asks → Type 0) (here : Given → P → Account → Asks → Type 0) : Type 0 where
-  pub begins : (given : Given) (q : P) → IsOf x given → t.starts given (Go q) → Someone given (t.asks q (opened given))
-  pub goes : (given : Given) (p q : P) (c : Account) (f : Asks) (d : Account) → IsIn x given c → NonePast (subject given.op) (bricks_of given) d → during p c f → here given p c f → IsRound (subject given.op) c f d → IsIdle d
-      → asked_again t p d ≡ [] → t.follows p d (Go q) → Someone given (t.asks q d)
+-- Each stage begins with a brick that it asks; `here given p c f` is what is kept of account c, at which stage p asked f, and `more given p c`
+-- what is kept beside.
+pub record Wakes {P : Type 0} (x : Ctx) (t : Table P) (during : P → Account → Asks → Type 0) (here : Given → P → Account → Asks → Type 0) (more : Given → P → Account → Type 0) : Type 0 where
+  pub begins : (given : Given) (q : P) → IsOf x given → t.starts given (Go q) → Someone given (t.asks q (opened given)) × more given q (opened given)
+  pub goes : (given : Given) (p q : P) (c : Account) (f : Asks) (d e : Account) → IsIn x given c → NonePast (subject given.op) (bricks_of given) d → during p c f → here given p c f → more given p c → IsRound (subject given.op) c f d → IsIdle d
+      → t.follows p d (Go q) → IsUnlocked (subject given.op) d e → during q e (t.asks q d) → here given q e (t.asks q d) → Someone given (t.asks q d) × more given q e
 
-module _ {P : Type 0} (x : Ctx) (t : Table P) (during : P → Account → Asks → Type 0) (here : Given → P → Account → Asks → Type 0) (sound : IsSound x t during) (kept : IsKept x t during here) (wakes : Wakes x t during here) where
+module _ {P : Type 0} (x : Ctx) (t : Table P) (during : P → Account → Asks → Type 0) (here : Given → P → Account → Asks → Type 0) (more : Given → P → Account → Type 0) (sound : IsSound x t during) (kept : IsKept x t during here) (wakes : Wakes x t during here more) where
   record InHere (given : Given) (p : P) (d : Account) : Type 0 where
     start : Account
     asks : Asks
@@ -127,6 +128,7 @@ module _ {P : Type 0} (x : Ctx) (t : Table P) (during : P → Account → Asks �
     none : NonePast (subject given.op) (bricks_of given) start
     dur : during p start asks
     here_is : here given p start asks
+    more_is : more given p start
     over : IsRound (subject given.op) start asks d
 
   on_asks : (given : Given) (p : P) (d : Account) (h : InHere given p d) → IsOn (subject given.op) (bricks_of h.start.given) (h.start.on (subject given.op)).queried h.asks
@@ -173,6 +175,7 @@ module _ {P : Type 0} (x : Ctx) (t : Table P) (during : P → Account → Asks �
         none = h.none;
         dur = m.0;
         here_is = kept.again given p h.start h.asks c es h.isin h.dur h.here_is h.over;
+        more_is = h.more_is;
         over = subst (λ (m : ℕ). IsRound g h.start (joined h.asks (t.asks p c)) (sent_all c i (round m (t.asks p c)))) (sym (ap bricks_of e)) w.1;
       }
 
@@ -210,14 +213,17 @@ module _ {P : Type 0} (x : Ctx) (t : Table P) (during : P → Account → Asks �
       let w = round_of g j d (t.asks q c) u.ready on (λ k a s part b r fb hb. sound.may given q d (t.asks q c) k a isin dur s part b r fb hb) in
       let n : bricks_of d.given ≡ bricks_of c.given = ap bricks_of u.is.given in
       let ends : sent_all c i (unlock c g ++ round (bricks_of c.given) (t.asks q c)) ≡ sent_all d j (round (bricks_of c.given) (t.asks q c)) = sent_append c i (unlock c g) (round (bricks_of c.given) (t.asks q c)) in
-      let who = wakes.goes given p q h.start h.asks c h.isin none h.dur h.here_is h.over idle quiet follows in (
+      let new = kept.goes given p q h.start h.asks c d h.isin none h.dur h.here_is h.over idle quiet follows isin u.is in
+      let woken = wakes.goes given p q h.start h.asks c d h.isin none h.dur h.here_is h.more_is h.over idle follows u.is dur new in
+      let who = woken.0 in (
         record {
           start = d;
           asks = t.asks q c;
           isin = isin;
           none = past_unlocked g (bricks_of given) c d u.is none;
           dur = dur;
-          here_is = kept.goes given p q h.start h.asks c d h.isin none h.dur h.here_is h.over idle quiet follows isin u.is;
+          here_is = new;
+          more_is = woken.1;
           over = subst (λ (z : Account). IsRound g d (t.asks q c) z) (sym ends) (subst (λ (m : ℕ). IsRound g d (t.asks q c) (sent_all d j (round m (t.asks q c)))) n w.1);
         },
         subst IsWaiting (sym ends) (someone_waits d j (bricks_of c.given) (t.asks q c) who.0 (let l = who.1 in let v = ap bricks_of e in omega (arith, l, v)) who.2 (λ r a. plain_speaks r (on_given.plain who.0 r a))),
@@ -248,7 +254,8 @@ module _ {P : Type 0} (x : Ctx) (t : Table P) (during : P → Account → Asks �
       let dur = sound.begins given q of starts in
       let on = sound.on given q c (t.asks q c) isin dur in
       let w = round_of g i c (t.asks q c) ready on (λ h a s part b r fb hb. sound.may given q c (t.asks q c) h a isin dur s part b r fb hb) in
-      let who = wakes.begins given q of starts in
+      let woken = wakes.begins given q of starts in
+      let who = woken.0 in
       subst (λ (s : Step P). Leaves given s.stage (with_answer (sent_all c i s.sends) s.answer)) (sym is) (stage_leaves given q (sent_all c i (round (bricks_of given) (t.asks q c))) (record {
         start = c;
         asks = t.asks q c;
@@ -256,6 +263,7 @@ module _ {P : Type 0} (x : Ctx) (t : Table P) (during : P → Account → Asks �
         none = λ y le. (ap (λ (p : PlaceOf). p.inode) (opened_place given g y of.kept), ap (λ (p : PlaceOf). p.window) (opened_place given g y of.kept));
         dur = dur;
         here_is = kept.begins given q of starts;
+        more_is = woken.1;
         over = w.1;
       }) (someone_waits c i (bricks_of given) (t.asks q c) who.0 who.1 who.2 (λ r a. plain_speaks r (on.plain who.0 r a))))
   first_leaves given i step (Say answer) of starts is = subst (λ (s : Step P). Leaves given s.stage (with_answer (sent_all (opened given) i s.sends) s.answer)) (sym is) (record {
@@ -271,7 +279,7 @@ module _ {P : Type 0} (x : Ctx) (t : Table P) (during : P → Account → Asks �
       let h = (by_turns given of ts earlier (Some before) by).goes_on before refl in
       let a = account given earlier in
       let c = after a turn.what in
-      let now : InHere given before c = record { start = h.start; asks = h.asks; isin = h.isin; none = h.none; dur = h.dur; here_is = h.here_is; over = outside_round (subject given.op) h.start a h.asks turn.what (on_asks given before a h) h.over outside } in
+      let now : InHere given before c = record { start = h.start; asks = h.asks; isin = h.isin; none = h.none; dur = h.dur; here_is = h.here_is; more_is = h.more_is; over = outside_round (subject given.op) h.start a h.asks turn.what (on_asks given before a h) h.over outside } in
       let l = step_leaves given turn.number before c turn.step (after_given a turn.what ∙ account_given given earlier) now went in
       subst (λ (o : Option P). Leaves given o (account given es)) (sym is)
       (subst (λ (z : Account). Leaves given turn.step.stage z) (sym (ap (account given) entries ∙ (account_append (opened given) earlier (turn.what ∷ step_entries turn.number turn.step) ∙ step_account c turn.number turn.step.sends turn.step.answer))) l)

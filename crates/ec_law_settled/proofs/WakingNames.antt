@@ -41,7 +41,7 @@ use Rattle.ec_law_causes.proofs.Queried.{JudgedIn, judged}
 use Rattle.ec_law_causes.proofs.Walking.{some_below}
 use Rattle.ec_law_settled.proofs.Waking.{Someone, Wakes}
 use Rattle.ec_law_settled.proofs.WakingMembers.{asked_where, less}
-use Rattle.ec_law_settled.proofs.WakingOpenings.{first_someone, lock_someone, when}
+use Rattle.ec_law_settled.proofs.WakingOpenings.{NoMore, first_someone, lock_someone, when}
 
 -- ## A group has a brick
 
@@ -61,7 +61,7 @@ grouped_some given w head e = elim (cases_lt 0 (count_below (bricks_of given) (i
       absurd (none_first (heads_in w) _ (good_group (bricks_of given) (quorum_of given) (heads_in w)) head (no_bricks (bricks_below (bricks_of given) (is_good (bricks_of given) (quorum_of given) (heads_in w))) (omega (arith, long, none))) e)
 ]
 
-held_fetched : (o : Option Lock) (q : ℕ → Request) → is_held o ≡ true → is_some (under o q) ≡ true
+pub held_fetched : (o : Option Lock) (q : ℕ → Request) → is_held o ≡ true → is_some (under o q) ≡ true
 held_fetched None q e = absurd (cc)
 held_fetched (Some lock) q e = when lock.granted (Some (q lock.number)) e refl
 
@@ -89,14 +89,14 @@ module _ (x : Ctx) (given : Given) (c : Account) (f : Asks) (d : Account) (isin 
   query_someone q (Gone bricks) here l h is = absurd (go_say q NoSuch is)
   query_someone q (Fewer most) here l h is = absurd (go_say q (NoQuorum QueryPhase most) is)
 
-pub lookup_wakes : (x : Ctx) → Wakes x lookup_table DuringLookup HereLookup
+pub lookup_wakes : (x : Ctx) → Wakes x lookup_table DuringLookup HereLookup NoMore
 lookup_wakes x = record {
-  begins = λ given q of s. first_someone OpensAt Shared LookupJudges lookup_asks (λ o c. refl) given q (go_same q (OpensAt (Locking 0)) s.1);
-  goes = λ given p q c f d isin none dur here r idle quiet follows. go given p q c f d isin none dur.1 here r idle follows;
+  begins = λ given q of s. first_someone OpensAt Shared LookupJudges lookup_asks NoMore (λ o c. refl) (λ v o c. tt) given q (go_same q (OpensAt (Locking 0)) s.1);
+  goes = λ given p q c f d e isin none dur here more r idle follows u dur' here'. go given p q c f d e isin none dur.1 here r idle follows;
 }
   where
-    go : (given : Given) (p q : LookupStage) (c : Account) (f : Asks) (d : Account) → IsIn x given c → NonePast (subject given.op) (bricks_of given) d → InLookup p c f → HereLookup given p c f → IsRound (subject given.op) c f d → IsIdle d
-        → LookupFollows p d (Go q) → Someone given (lookup_asks q d)
-    go given (OpensAt (Locking brick)) q c f d isin none dur here r idle follows = lock_someone OpensAt Shared LookupJudges lookup_asks (λ o a. refl) given brick d q (r.given ∙ isin.given_is) follows
-    go given (OpensAt Query) q c f d isin none dur here r idle (grouped, comes, is) = query_someone x given c f d isin none r idle q grouped here dur (judged given d (r.given ∙ isin.given_is) (queried Shared given c f d isin.given_is dur here r idle none) (λ answer. ⊥) grouped comes) is
-    go given (Name bricks) q c f d isin none dur here r idle follows = absurd (go_say q (lookup_answer follows.0) follows.2)
+    go : (given : Given) (p q : LookupStage) (c : Account) (f : Asks) (d e : Account) → IsIn x given c → NonePast (subject given.op) (bricks_of given) d → InLookup p c f → HereLookup given p c f → IsRound (subject given.op) c f d → IsIdle d
+        → LookupFollows p d (Go q) → Someone given (lookup_asks q d) × Unit {0}
+    go given (OpensAt (Locking brick)) q c f d e isin none dur here r idle follows = lock_someone OpensAt Shared LookupJudges lookup_asks NoMore (λ o a. refl) (λ v o c. tt) given brick d e q (r.given ∙ isin.given_is) follows
+    go given (OpensAt Query) q c f d e isin none dur here r idle (grouped, comes, is) = (query_someone x given c f d isin none r idle q grouped here dur (judged given d (r.given ∙ isin.given_is) (queried Shared given c f d isin.given_is dur here r idle none) (λ answer. ⊥) grouped comes) is, tt)
+    go given (Name bricks) q c f d e isin none dur here r idle follows = absurd (go_say q (lookup_answer follows.0) follows.2)

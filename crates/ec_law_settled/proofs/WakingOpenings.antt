@@ -55,14 +55,22 @@ goes_by true b p r q s e = inl (refl, go_same q p e)
 goes_by false true p r q s e = inr (refl, go_same q r e)
 goes_by false false p r q s e = absurd (go_say q s e)
 
-module _ {P : Type 0} (into : Opening → P) (kind : LockKind) (judges : Account → Grouped → Next P → Type 0) (asks : P → Account → Asks) (same : (o : Opening) (c : Account) → asks (into o) c ≡ opening_asks kind o c) (given : Given) where
-  pub first_someone : (q : P) → q ≡ into (Locking 0) → Someone given (asks q (opened given))
-  first_someone q e = subst (λ (z : P). Someone given (asks z (opened given))) (sym e) (subst (Someone given) (sym (same (Locking 0) (opened given))) (locking_someone kind given 0 (opened given) (let m = given.geometry.least in omega arith)))
+-- nothing more is kept
+abbrev pub NoMore : {P : Type 0} → Given → P → Account → Type 0
+NoMore {P} given p c = Unit {0}
 
-  pub lock_someone : (brick : ℕ) (d : Account) (q : P) → d.given ≡ given → OpeningFollows into judges (Locking brick) d (Go q) → Someone given (asks q d)
-  lock_someone brick d q dg follows = elim (goes_by (nat_lt (brick + 1) (bricks_of d.given)) (nat_le (quorum_of d.given) (count_locks d (subject d.given.op))) (into (Locking (brick + 1))) (into Query) q _ follows) [
-    | inl w ↦ subst (λ (z : P). Someone given (asks z d)) (sym w.1) (subst (Someone given) (sym (same (Locking (brick + 1)) d)) (locking_someone kind given (brick + 1) d (subst (λ (v : Given). brick + 1 < bricks_of v) dg (less (brick + 1) (bricks_of d.given) w.0))))
-    | inr w ↦ subst (λ (z : P). Someone given (asks z d)) (sym w.1) (subst (Someone given) (sym (same Query d)) (query_someone kind given d dg (at_most (quorum_of d.given) (count_locks d (subject d.given.op)) w.0)))
+module _ {P : Type 0} (into : Opening → P) (kind : LockKind) (judges : Account → Grouped → Next P → Type 0) (asks : P → Account → Asks) (more : Given → P → Account → Type 0) (same : (o : Opening) (c : Account) → asks (into o) c ≡ opening_asks kind o c)
+    (free : (given : Given) (o : Opening) (c : Account) → more given (into o) c) (given : Given) where
+  abbrev Woken : P → Account → Account → Type 0
+  Woken q d e = Someone given (asks q d) × more given q e
+
+  pub first_someone : (q : P) → q ≡ into (Locking 0) → Woken q (opened given) (opened given)
+  first_someone q e = subst (λ (z : P). Woken z (opened given) (opened given)) (sym e) (subst (Someone given) (sym (same (Locking 0) (opened given))) (locking_someone kind given 0 (opened given) (let m = given.geometry.least in omega arith)), free given (Locking 0) (opened given))
+
+  pub lock_someone : (brick : ℕ) (d e : Account) (q : P) → d.given ≡ given → OpeningFollows into judges (Locking brick) d (Go q) → Woken q d e
+  lock_someone brick d e q dg follows = elim (goes_by (nat_lt (brick + 1) (bricks_of d.given)) (nat_le (quorum_of d.given) (count_locks d (subject d.given.op))) (into (Locking (brick + 1))) (into Query) q _ follows) [
+    | inl w ↦ subst (λ (z : P). Woken z d e) (sym w.1) (subst (Someone given) (sym (same (Locking (brick + 1)) d)) (locking_someone kind given (brick + 1) d (subst (λ (v : Given). brick + 1 < bricks_of v) dg (less (brick + 1) (bricks_of d.given) w.0))), free given (Locking (brick + 1)) e)
+    | inr w ↦ subst (λ (z : P). Woken z d e) (sym w.1) (subst (Someone given) (sym (same Query d)) (query_someone kind given d dg (at_most (quorum_of d.given) (count_locks d (subject d.given.op)) w.0)), free given Query e)
   ]
     where
       less : (a b : ℕ) → nat_lt a b ≡ true → a < b
@@ -73,22 +81,22 @@ module _ {P : Type 0} (into : Opening → P) (kind : LockKind) (judges : Account
 
 -- ## A stat and a getattr
 
-pub stat_wakes : (x : Ctx) → Wakes x stat_table DuringStat HereStat
+pub stat_wakes : (x : Ctx) → Wakes x stat_table DuringStat HereStat NoMore
 stat_wakes x = record {
-  begins = λ given q of s. first_someone (λ o. o) Shared StatJudges (opening_asks Shared) (λ o c. refl) given q (go_same q (Locking 0) s.1);
-  goes = λ given p q c f d isin none dur here r idle quiet follows. go given p q c f d isin r follows;
+  begins = λ given q of s. first_someone (λ o. o) Shared StatJudges (opening_asks Shared) NoMore (λ o c. refl) (λ v o c. tt) given q (go_same q (Locking 0) s.1);
+  goes = λ given p q c f d e isin none dur here more r idle follows u dur' here'. go given p q c f d e isin r follows;
 }
   where
-    go : (given : Given) (p q : Opening) (c : Account) (f : Asks) (d : Account) → IsIn x given c → IsRound (subject given.op) c f d → stat_table.follows p d (Go q) → Someone given (opening_asks Shared q d)
-    go given (Locking brick) q c f d isin r follows = lock_someone (λ o. o) Shared StatJudges (opening_asks Shared) (λ o a. refl) given brick d q (r.given ∙ isin.given_is) follows
-    go given Query q c f d isin r follows = absurd (go_say q (stat_answer follows.0) follows.2)
+    go : (given : Given) (p q : Opening) (c : Account) (f : Asks) (d e : Account) → IsIn x given c → IsRound (subject given.op) c f d → stat_table.follows p d (Go q) → Someone given (opening_asks Shared q d) × Unit {0}
+    go given (Locking brick) q c f d e isin r follows = lock_someone (λ o. o) Shared StatJudges (opening_asks Shared) NoMore (λ o a. refl) (λ v o c. tt) given brick d e q (r.given ∙ isin.given_is) follows
+    go given Query q c f d e isin r follows = absurd (go_say q (stat_answer follows.0) follows.2)
 
-pub getattr_wakes : (x : Ctx) → Wakes x getattr_table DuringGetAttr HereStat
+pub getattr_wakes : (x : Ctx) → Wakes x getattr_table DuringGetAttr HereStat NoMore
 getattr_wakes x = record {
-  begins = λ given q of s. first_someone (λ o. o) Shared GetAttrJudges (opening_asks Shared) (λ o c. refl) given q (go_same q (Locking 0) s.1);
-  goes = λ given p q c f d isin none dur here r idle quiet follows. go given p q c f d isin r follows;
+  begins = λ given q of s. first_someone (λ o. o) Shared GetAttrJudges (opening_asks Shared) NoMore (λ o c. refl) (λ v o c. tt) given q (go_same q (Locking 0) s.1);
+  goes = λ given p q c f d e isin none dur here more r idle follows u dur' here'. go given p q c f d e isin r follows;
 }
   where
-    go : (given : Given) (p q : Opening) (c : Account) (f : Asks) (d : Account) → IsIn x given c → IsRound (subject given.op) c f d → getattr_table.follows p d (Go q) → Someone given (opening_asks Shared q d)
-    go given (Locking brick) q c f d isin r follows = lock_someone (λ o. o) Shared GetAttrJudges (opening_asks Shared) (λ o a. refl) given brick d q (r.given ∙ isin.given_is) follows
-    go given Query q c f d isin r follows = absurd (go_say q (getattr_answer follows.0) follows.2)
+    go : (given : Given) (p q : Opening) (c : Account) (f : Asks) (d e : Account) → IsIn x given c → IsRound (subject given.op) c f d → getattr_table.follows p d (Go q) → Someone given (opening_asks Shared q d) × Unit {0}
+    go given (Locking brick) q c f d e isin r follows = lock_someone (λ o. o) Shared GetAttrJudges (opening_asks Shared) NoMore (λ o a. refl) (λ v o c. tt) given brick d e q (r.given ∙ isin.given_is) follows
+    go given Query q c f d e isin r follows = absurd (go_say q (getattr_answer follows.0) follows.2)

@@ -22,7 +22,7 @@ use Rattle.ec_law_causes.proofs.Stat.{HereStat, getattr_kept, stat_kept}
 use Rattle.ec_law_settled.specs.Answered.{LooksUp}
 use Rattle.ec_law_settled.proofs.Waking.{by_table}
 use Rattle.ec_law_settled.proofs.WakingNames.{lookup_wakes}
-use Rattle.ec_law_settled.proofs.WakingOpenings.{getattr_wakes, stat_wakes}
+use Rattle.ec_law_settled.proofs.WakingOpenings.{NoMore, getattr_wakes, stat_wakes}
 use Rattle.ec_law_settled.proofs.call_wait_laws.Goals as goal
 
 -- a call of another op is none of these
@@ -34,9 +34,9 @@ make_other File g name of = of
 make_other Dir g name of = of
 
 waits_of : (x : Ctx) (given : Given) (call : AnyCall) (es : List Own) → impl.stands x given call es → LooksUp given.op → (account given es).answer ≡ None → IsWaiting (account given es)
-waits_of x given (Stat own) es s of none = by_table x stat_table DuringStat HereStat (stat_sound x) (stat_kept x) (stat_wakes x) given es own.stage s.of s.by_table none
-waits_of x given (GetAttr own) es s of none = by_table x getattr_table DuringGetAttr HereStat (getattr_sound x) (getattr_kept x) (getattr_wakes x) given es own.stage s.of s.by_table none
-waits_of x given (Lookup own) es s of none = by_table x lookup_table DuringLookup HereLookup (lookup_sound x) (lookup_kept x) (lookup_wakes x) given es own.stage s.of s.by_table none
+waits_of x given (Stat own) es s of none = by_table x stat_table DuringStat HereStat NoMore (stat_sound x) (stat_kept x) (stat_wakes x) given es own.stage s.of s.by_table none
+waits_of x given (GetAttr own) es s of none = by_table x getattr_table DuringGetAttr HereStat NoMore (getattr_sound x) (getattr_kept x) (getattr_wakes x) given es own.stage s.of s.by_table none
+waits_of x given (Lookup own) es s of none = by_table x lookup_table DuringLookup HereLookup NoMore (lookup_sound x) (lookup_kept x) (lookup_wakes x) given es own.stage s.of s.by_table none
 waits_of x given (SetAttr own) es s of none = other given.op _ (IsWaiting (account given es)) s.fit (λ z. z) of
 waits_of x given (Read own) es s of none = other given.op _ (IsWaiting (account given es)) s.fit (λ z. z) of
 waits_of x given (Write own) es s of none = other given.op _ (IsWaiting (account given es)) s.fit (λ z. z) of

@@ -16,5 +16,7 @@ pub mod WakingOpenings
 pub mod WakingMembers
 pub mod WakingNames
 pub mod WakingServes
+pub mod WakingSetAttr
+pub mod WakingMake
 pub mod Unbooked
 pub mod Answered

@@ -61,12 +61,17 @@ serves_done p x s done = by (serving p) refl s
 
 -- ## After a round
 
+-- what a brick that was asked has then
+pub over_noted : (given : Given) (c : Account) (f : Asks) (d : Account) (y : ℕ) (q : Request) → f y ≡ Some q → 2 ≤ rank q → IsRound (subject given.op) c f d → IsIdle d
+    → (i : ℕ) × (reply : Option Reply) × (at d (subject given.op) y ≡ noted (at c (subject given.op) y) (record { number = i; request = q; reply = reply }))
+over_noted given c f d y q e late r idle =
+    let w = over_in q (at c (subject given.op) y) (d.waits y) (at d (subject given.op) y) (subst (λ (o : Option Request). IsInRound o (at c (subject given.op) y) (d.waits y) (at d (subject given.op) y)) e (r.each y)) (idle y) in
+    (w.0, w.1, w.2 ∙ ap (λ (p : PlaceOf). noted p (record { number = w.0; request = q; reply = w.1 })) (late_place (at c (subject given.op) y) w.0 q late))
+
 pub serves_on : (given : Given) (c : Account) (f : Asks) (d : Account) (y : ℕ) (q : Request) → f y ≡ Some q → 2 ≤ rank q → IsRound (subject given.op) c f d → IsIdle d → Serves given c y → is_done (last_reply (windows given d y)) ≡ true → Serves given d y
 serves_on given c f d y q e late r idle s done =
-    let w = over_in q (at c (subject given.op) y) (d.waits y) (at d (subject given.op) y) (subst (λ (o : Option Request). IsInRound o (at c (subject given.op) y) (d.waits y) (at d (subject given.op) y)) e (r.each y)) (idle y) in
-    let k : Exchange = record { number = w.0; request = q; reply = w.1 } in
-    let now : at d (subject given.op) y ≡ noted (at c (subject given.op) y) k = w.2 ∙ ap (λ (p : PlaceOf). noted p k) (late_place (at c (subject given.op) y) w.0 q late) in
-    ap (λ (p : PlaceOf). is_some (serving p)) now ∙ serves_done (at c (subject given.op) y) k s (sym (ap (λ (p : PlaceOf). is_done (last_reply p.window)) now) ∙ done)
+    let w = over_noted given c f d y q e late r idle in
+    ap (λ (p : PlaceOf). is_some (serving p)) w.2 ∙ serves_done (at c (subject given.op) y) (record { number = w.0; request = q; reply = w.1 }) s (sym (ap (λ (p : PlaceOf). is_done (last_reply p.window)) w.2) ∙ done)
 
 -- ## After the Queries
 
@@ -94,14 +99,19 @@ queried_serve given kind c f d l r idle y t = go (f y) refl (r.each y)
         let replied : reply_to is_query (windows given d y) ≡ w.1 = ap (λ (p : PlaceOf). reply_to is_query p.window) now ∙ rw is refl in
         ap (λ (p : PlaceOf). is_some (serving p)) now ∙ serves_done (at c (subject given.op) y) k (ap is_some served) (head_done w.1 (λ n. headed (ap head_of replied ∙ n)))
 
+-- one that is known to serve counts
+pub serves_count : (given : Given) (group : Group) (d : Account) → d.given ≡ given → (y : ℕ) → y < bricks_of given → is_in group.bricks y ≡ true → Serves given d y → 0 < count_serving d group
+serves_count given group d dg y less t u =
+    let s : (is_in group.bricks y && is_some (serving (at d (subject given.op) y))) ≡ true = rw (t, u) refl in
+    subst (λ (v : Given). 0 < count_below (bricks_of v) (λ x. is_in group.bricks x && is_some (serving (at d (subject v.op) x)))) (sym dg)
+    (counts_one (bricks_of given) (λ x. is_in group.bricks x && is_some (serving (at d (subject given.op) x))) y less s)
+
 -- where all of it serve, some brick of it does
 pub all_count : (given : Given) (group : Group) (d : Account) → d.given ≡ given → HasGroup given (windows given d) group → AllServe given group.bricks d → 0 < count_serving d group
 all_count given group d dg g all =
     let y = grouped_some given (windows given d) group.head g.head in
     let t : is_in group.bricks y.0 ≡ true = sym (g.bricks y.0) ∙ y.2 in
-    let s : (is_in group.bricks y.0 && is_some (serving (at d (subject given.op) y.0))) ≡ true = (let u = all y.0 t in rw (t, u) refl) in
-    subst (λ (v : Given). 0 < count_below (bricks_of v) (λ x. is_in group.bricks x && is_some (serving (at d (subject v.op) x)))) (sym dg)
-    (counts_one (bricks_of given) (λ x. is_in group.bricks x && is_some (serving (at d (subject given.op) x))) y.0 y.1 s)
+    serves_count given group d dg y.0 y.1 t (all y.0 t)
 
 module _ (kind : LockKind) (given : Given) (c : Account) (f : Asks) (d : Account) (cg : c.given ≡ given) (l : InOpening kind Query c f) (h : HereOpening kind given Query c f) (r : IsRound (subject given.op) c f d) (idle : IsIdle d) (none : NonePast (subject given.op) (bricks_of given) d) (group : Group) (g : HasGroup given (windows given d) group) where
   pub group_serves : AllServe given group.bricks d
@@ -116,6 +126,21 @@ child_done : (o : Option Reply) → is_some (value_in o) ≡ true → is_done o 
 child_done (Some (ChildIs value)) e = refl
 child_done o e = absurd (let v : false ≡ true = e in cc)
 
+-- the last reply of a brick that was asked for the name
+name_last : (given : Given) (c : Account) (f : Asks) (d : Account) (y : ℕ) (q : Request) → f y ≡ Some q → is_name q ≡ true → 2 ≤ rank q → IsRound (subject given.op) c f d → IsIdle d → last_reply (windows given d y) ≡ reply_to is_name (windows given d y)
+name_last given c f d y q e n late r idle =
+    let w = over_noted given c f d y q e late r idle in
+    ap (λ (p : PlaceOf). last_reply p.window) w.2 ∙ sym (ap (λ (p : PlaceOf). reply_to is_name p.window) w.2 ∙ rw n refl)
+
+-- a brick that told the name serves, where the group did before
+named_serves : (given : Given) (group : Group) (c : Account) (f : Asks) (d : Account) → HereNaming given group c f → IsRound (subject given.op) c f d → IsIdle d → AllServe given group.bricks c → (y : ℕ) → y < bricks_of given → is_in group.bricks y ≡ true
+    → is_some (value_in (reply_in NamePhase (windows given d) y)) ≡ true → Serves given d y
+named_serves given group c f d h r idle all y less t told =
+    let a = h.asked y t less in
+    let k = h.only y a.0 a.1 in
+    let late : 2 ≤ rank a.0 = (let m = k.1 in omega (arith, m)) in
+    serves_on given c f d y a.0 a.1 late r idle (all y t) (child_done (last_reply (windows given d y)) (ap (λ (o : Option Reply). is_some (value_in o)) (name_last given c f d y a.0 a.1 k.0 late r idle) ∙ told))
+
 pub named_count : (given : Given) (group : Group) (c : Account) (f : Asks) (d : Account) → d.given ≡ given → HereNaming given group c f → IsRound (subject given.op) c f d → IsIdle d → NonePast (subject given.op) (bricks_of given) d → AllServe given group.bricks c
     → quorum_of given ≤ number given (windows given d) NamePhase → 0 < count_serving d group
 named_count given group c f d dg h r idle none all le =
@@ -123,17 +148,4 @@ named_count given group c f d dg h r idle none all le =
     let y = some_below (bricks_of given) (λ x. is_grouped given (windows given d) x && is_some (value_in (reply_in NamePhase (windows given d) x))) (let m = given.geometry.majority in omega (arith, le, m)) in
     let w = both (is_grouped given (windows given d) y.0) (is_some (value_in (reply_in NamePhase (windows given d) y.0))) y.2 in
     let t : is_in group.bricks y.0 ≡ true = sym (members.group_is.bricks y.0) ∙ w.0 in
-    let a = h.asked y.0 t y.1 in
-    let k = h.only y.0 a.0 a.1 in
-    let n = k.0 in
-    let late : 2 ≤ rank a.0 = (let m = k.1 in omega (arith, m)) in
-    let v = over_in a.0 (at c (subject given.op) y.0) (d.waits y.0) (at d (subject given.op) y.0) (subst (λ (o : Option Request). IsInRound o (at c (subject given.op) y.0) (d.waits y.0) (at d (subject given.op) y.0)) a.1 (r.each y.0)) (idle y.0) in
-    let e : Exchange = record { number = v.0; request = a.0; reply = v.1 } in
-    let now : at d (subject given.op) y.0 ≡ noted (at c (subject given.op) y.0) e = v.2 ∙ ap (λ (p : PlaceOf). noted p e) (late_place (at c (subject given.op) y.0) v.0 a.0 late) in
-    let replied : reply_to is_name (windows given d y.0) ≡ v.1 = ap (λ (p : PlaceOf). reply_to is_name p.window) now ∙ rw n refl in
-    let last : last_reply (windows given d y.0) ≡ v.1 = ap (λ (p : PlaceOf). last_reply p.window) now in
-    let done : is_done (last_reply (windows given d y.0)) ≡ true = ap is_done last ∙ child_done v.1 (sym (ap (λ (o : Option Reply). is_some (value_in o)) replied) ∙ w.1) in
-    let u = serves_on given c f d y.0 a.0 a.1 late r idle (all y.0 t) done in
-    let s : (is_in group.bricks y.0 && is_some (serving (at d (subject given.op) y.0))) ≡ true = rw (t, u) refl in
-    subst (λ (v : Given). 0 < count_below (bricks_of v) (λ x. is_in group.bricks x && is_some (serving (at d (subject v.op) x)))) (sym dg)
-    (counts_one (bricks_of given) (λ x. is_in group.bricks x && is_some (serving (at d (subject given.op) x))) y.0 y.1 s)
+    serves_count given group d dg y.0 y.1 t (named_serves given group c f d h r idle all y.0 y.1 t w.1)

@@ -18,5 +18,7 @@ pub mod WakingNames
 pub mod WakingServes
 pub mod WakingSetAttr
 pub mod WakingMake
+pub mod WakingUnlink
+pub mod WakingReaddir
 pub mod Unbooked
 pub mod Answered

@@ -20,5 +20,7 @@ pub mod WakingSetAttr
 pub mod WakingMake
 pub mod WakingUnlink
 pub mod WakingReaddir
+pub mod WakingReading
+pub mod WakingRead
 pub mod Unbooked
 pub mod Answered

@@ -22,5 +22,7 @@ pub mod WakingUnlink
 pub mod WakingReaddir
 pub mod WakingReading
 pub mod WakingRead
+pub mod WakingWrite
+pub mod WakingTruncate
 pub mod Unbooked
 pub mod Answered

@@ -14,17 +14,18 @@ use Rattle.ec_wire.specs.declared.reply.Reply.{Reply}
 use Rattle.ec_wire.specs.declared.reply.Reply.TheVariants.{Chunks}
 use Rattle.ec_wire.specs.declared.request.Request.{Request}
 use Rattle.ec_wire.specs.declared.request.Request.TheVariants.{ReadChunks}
-use Rattle.ec_txn.specs.Ballot.{serving}
+use Rattle.ec_txn.specs.Ballot.{count_serving, serving}
 use Rattle.ec_txn.specs.Digest.{last_read, read_of}
 use Rattle.ec_txn.specs.Fetching.{under}
 use Rattle.ec_txn.specs.ReadPhase.{asked_if, chunks_of, count_before, count_wanted, has_chunks, is_chosen, is_counted, is_first, is_left, is_tried, places_of, reading_asks}
 use Rattle.ec_txn.specs.Replies.{last_reply, replied}
-use Rattle.ec_txn.specs.Rounds.{Asks, IsIdle, IsRound, IsUnlocked, subject}
+use Rattle.ec_txn.specs.Rounds.{Asks, IsIdle, IsRound, IsUnlocked, subject, where_so}
 use Rattle.ec_txn.specs.declared.ctx.Ctx.{Ctx}
 use Rattle.ec_txn.specs.declared.reading.Reading.{Reading}
 use Rattle.ec_txn.proofs.Ballots.{serving_is}
 use Rattle.ec_write.specs.During.{IsReadingOne}
 use Rattle.ec_write.specs.Stripes.{count_gave, gave, has_chunk}
+use Rattle.ec_write.specs.Write.{read_asks}
 use Rattle.ec_law_causes.specs.Counted.{is_grouped}
 use Rattle.ec_law_causes.proofs.Along.{NonePast, windows}
 use Rattle.ec_law_causes.proofs.Members.{grouped_below}
@@ -34,9 +35,10 @@ use Rattle.ec_law_causes.proofs.Reading.{HereReading}
 use Rattle.ec_law_causes.proofs.Rounds.{IsOver, over_at}
 use Rattle.ec_law_causes.proofs.Walking.{chosen, some_below}
 use Rattle.ec_law_settled.proofs.Waking.{Someone}
-use Rattle.ec_law_settled.proofs.WakingMembers.{asked_where, less}
+use Rattle.ec_law_settled.proofs.WakingMembers.{asked_where, both, less}
 use Rattle.ec_law_settled.proofs.WakingNames.{held_fetched}
-use Rattle.ec_law_settled.proofs.WakingServes.{Serves, serves_on}
+use Rattle.ec_law_settled.proofs.WakingOpenings.{when}
+use Rattle.ec_law_settled.proofs.WakingServes.{Serves, serves_count, serves_on}
 
 -- no chunks were read of this stripe before
 none_first : (first : ℕ) (es : List Exchange) → tried (is_read_from first) es ≡ false → is_first (last_read es) first ≡ false
@@ -112,6 +114,32 @@ pub record Gave (given : Given) (group : Group) (d : Account) : Type 0 where
   pub below : brick < bricks_of given
   pub grouped : is_in group.bricks brick ≡ true
   pub serves : Serves given d brick
+
+-- one of a quorum that serves
+pub quorum_gave : (given : Given) (group : Group) (d : Account) → d.given ≡ given → quorum_of d.given ≤ count_serving d group → Gave given group d
+quorum_gave given group d dg le =
+    let y = some_below (bricks_of d.given) (λ x. is_in group.bricks x && is_some (serving (at d (subject d.given.op) x))) (let m = d.given.geometry.majority in omega (arith, le, m)) in
+    let t = both (is_in group.bricks y.0) (is_some (serving (at d (subject d.given.op) y.0))) y.2 in
+    let lt : y.0 < bricks_of d.given = y.1 in
+    record {
+      brick = y.0;
+      below = subst (λ (v : Given). y.0 < bricks_of v) dg lt;
+      grouped = t.0;
+      serves = subst (λ (v : Given). is_some (serving (at d (subject v.op) y.0)) ≡ true) dg t.1;
+    }
+
+pub gave_count : (given : Given) (group : Group) (d : Account) → d.given ≡ given → Gave given group d → 0 < count_serving d group
+gave_count given group d dg w = serves_count given group d dg w.brick w.below w.grouped w.serves
+
+-- what is asked where that is to be asked
+pub where_someone : (given : Given) (t : Bool) (f : Asks) → t ≡ true → Someone given f → Someone given (where_so t f)
+where_someone given t f e s = (s.0, s.1, when t (f s.0) e s.2)
+
+-- of the whole group a stripe is read
+pub stripe_someone : (given : Given) (group : Group) (m : ℕ) (reading : Reading) (d e : Account) (f : Asks) → d.given ≡ given → IsIdle d → NonePast (subject given.op) (bricks_of given) d → IsUnlocked (subject given.op) d e → HereReading given group m reading e f
+    → reading.among ≡ group.bricks → Gave given group d → Someone given (read_asks reading d)
+stripe_someone given group m reading d e f dg idle none u h among w = where_someone given (nat_lt reading.start 31) (reading_asks reading d) (less reading.start 31 h.start)
+    (reading_someone given group m reading d e f dg idle none u h (λ y lt t. ap (λ (bits : ℕ). is_in bits y) (sym among) ∙ t) w.brick (let b = given.geometry.bricks in let l = w.below in omega (arith, b, l)) (ap (λ (bits : ℕ). is_in bits w.brick) among ∙ w.grouped) w.serves)
 
 pub reads_serve : (x : Ctx) (given : Given) (group : Group) (reading : Reading) (c : Account) (f : Asks) (d : Account) → IsReadingOne x given c group reading f → IsRound (subject given.op) c f d → IsIdle d
     → quorum_of given ≤ count_gave reading (places_of d (subject given.op)) (replied d (subject given.op)) → Gave given group d

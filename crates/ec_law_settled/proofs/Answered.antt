@@ -48,8 +48,8 @@ none_is : {X : Type 0} (x : X) → None ≡ Some x → ⊥
 none_is x e = cc
 
 -- a call that a client runs, without an answer by its own entries, waits for a brick in the net
-module _ (Of : Op → Type 0) (stands : Ctx → Given → AnyCall → List Own → Type 0) (by_table : Ctx → Given → List Own → Type 0) (wakes : CallWaitLaws Of stands) (n : ℕ) (s : Cluster) (c : Clients AnyCall) (p : Come) (h : Sees stands by_table s c p)
-    (counted_then : IsCounted n p.net) (unbooked : AreUnanswered p.net p.books) (call : ℕ) (asker : Asker) (made : p.net.asker call ≡ Some asker) (unanswered : p.net.answered call ≡ false) (of : Of asker.op) where
+module _ (stands : Ctx → Given → AnyCall → List Own → Type 0) (by_table : Ctx → Given → List Own → Type 0) (wakes : CallWaitLaws stands) (n : ℕ) (s : Cluster) (c : Clients AnyCall) (p : Come) (h : Sees stands by_table s c p)
+    (counted_then : IsCounted n p.net) (unbooked : AreUnanswered p.net p.books) (call : ℕ) (asker : Asker) (made : p.net.asker call ≡ Some asker) (unanswered : p.net.answered call ≡ false) where
   is : IsMade c.options (said_in (log_of s)) (ledger p) call asker
   is = h.seen.clients.calls.made call asker made
 
@@ -63,7 +63,7 @@ module _ (Of : Op → Type 0) (stands : Ctx → Given → AnyCall → List Own �
       let begun : begun_with c.options runs.asker.op runs.child ≡ given = some_is (begun_with c.options runs.asker.op runs.child) given (sym runs.begun ∙ (ap p.books.given slot.2 ∙ is.begun)) in
       let meets = subst (λ (z : Given). stands (ctx_of c.options slot.0.number asker.client runs.child) z slot.0.call (p.books.own slot.0.number)) begun runs.meets in
       let here = subst (λ (a : ℕ). stands (ctx_of c.options slot.0.number asker.client runs.child) given slot.0.call (p.books.own a)) slot.2 meets in
-      wakes.waits (ctx_of c.options slot.0.number asker.client runs.child) given slot.0.call (p.books.own call) here of (unanswered_account given (p.books.own call) (unbooked call unanswered))
+      wakes.waits (ctx_of c.options slot.0.number asker.client runs.child) given slot.0.call (p.books.own call) here (unanswered_account given (p.books.own call) (unbooked call unanswered))
 
   pub awaited : (b : ℕ) × (b < n) × (i : ℕ) × (p.net.awaits call b ≡ Some i)
   awaited = by ((account given (p.books.own call)).waits waits.0) refl waits.1
@@ -75,8 +75,8 @@ module _ (Of : Op → Type 0) (stands : Ctx → Given → AnyCall → List Own �
           let sent = told.sent waits.0 w e in
           (waits.0, counted_then.brick w.number (request_message w.number call asker.client waits.0 w.request) (ap (λ (f : ℕ → Option Message). f w.number) h.seen.said ∙ sent), w.number, told.same waits.0 ∙ ap number_of e)
 
-module _ (Of : Op → Type 0) (stands : Ctx → Given → AnyCall → List Own → Type 0) (by_table : Ctx → Given → List Own → Type 0) (wakes : CallWaitLaws Of stands) (laws : SettledLaws (OfEveryWorldsCall stands by_table)) (config : Config) (bricks : ℕ → State) (tree : Tree) (next : ℕ) (s : Cluster) (c : Clients AnyCall)
-    (logged : IsLogged stands by_table config bricks tree next s c) (earlier : List Entry) (call client : ℕ) (op : Op) (called : Step) (steps : List Step) (parts : log_of s ≡ earlier ++ entries_of (called ∷ steps)) (settled : IsSettledCall config.geometry.n (run earlier (fresh bricks)) call client op called steps) (of : Of op) where
+module _ (stands : Ctx → Given → AnyCall → List Own → Type 0) (by_table : Ctx → Given → List Own → Type 0) (wakes : CallWaitLaws stands) (laws : SettledLaws (OfEveryWorldsCall stands by_table)) (config : Config) (bricks : ℕ → State) (tree : Tree) (next : ℕ) (s : Cluster) (c : Clients AnyCall)
+    (logged : IsLogged stands by_table config bricks tree next s c) (earlier : List Entry) (call client : ℕ) (op : Op) (called : Step) (steps : List Step) (parts : log_of s ≡ earlier ++ entries_of (called ∷ steps)) (settled : IsSettledCall config.geometry.n (run earlier (fresh bricks)) call client op called steps) where
   abbrev es : List Entry
   es = entries_of (called ∷ steps)
 
@@ -122,10 +122,10 @@ module _ (Of : Op → Type 0) (stands : Ctx → Given → AnyCall → List Own �
       by : (t : Bool) → (run (log_of s) (fresh bricks)).answered call ≡ t → (run (log_of s) (fresh bricks)).answered call ≡ true
       by true e = e
       by false e =
-          let w = awaited Of stands by_table wakes config.geometry.n s c p logged.sees counted_then unbooked call (record { client = client; op = op }) made (ap (λ (m : Net). m.answered call) net_is ∙ e) of in
+          let w = awaited stands by_table wakes config.geometry.n s c p logged.sees counted_then unbooked call (record { client = client; op = op }) made (ap (λ (m : Net). m.answered call) net_is ∙ e) in
           let none : (run es start).awaits call w.0 ≡ None = waits_none (ap (λ (m : Net). m.answered call) (sym ends_is) ∙ e) w.0 w.1 in
           absurd (none_is w.2 (sym none ∙ (ap (λ (m : Net). m.awaits call w.0) (sym (net_is ∙ ends_is)) ∙ w.3)))
 
-pub answered_laws : (Of : Op → Type 0) (stands : Ctx → Given → AnyCall → List Own → Type 0) (by_table : Ctx → Given → List Own → Type 0) → CallWaitLaws Of stands → SettledLaws (OfEveryWorldsCall stands by_table) → AnsweredInEveryWorld Of stands by_table
-answered_laws Of stands by_table wakes laws config bricks tree next s c logged earlier call client op called steps parts settled of =
-    is_answered Of stands by_table wakes laws config bricks tree next s c logged earlier call client op called steps parts settled of
+pub answered_laws : (stands : Ctx → Given → AnyCall → List Own → Type 0) (by_table : Ctx → Given → List Own → Type 0) → CallWaitLaws stands → SettledLaws (OfEveryWorldsCall stands by_table) → AnsweredInEveryWorld stands by_table
+answered_laws stands by_table wakes laws config bricks tree next s c logged earlier call client op called steps parts settled =
+    is_answered stands by_table wakes laws config bricks tree next s c logged earlier call client op called steps parts settled

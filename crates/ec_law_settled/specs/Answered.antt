@@ -16,28 +16,19 @@ use Rattle.ec_txn.specs.Rounds.{IsWaiting}
 use Rattle.ec_txn.specs.declared.ctx.Ctx.{Ctx}
 use Rattle.ec_wire.specs.declared.entry.Entry.{Entry}
 use Rattle.ec_wire.specs.declared.op.Op.{Op}
-use Rattle.ec_wire.specs.declared.op.Op.TheVariants.{GetAttr, Lookup, Stat}
 use Rattle.ec_law_calls.specs.World.{IsLogged}
 use Rattle.ec_law_settled.specs.Settled.{IsSettledCall}
 
--- calls that ask for locks, heads and one name, and for nothing else
-abbrev pub LooksUp : Op → Type 0
-LooksUp (Stat g) = Unit {0}
-LooksUp (GetAttr g) = Unit {0}
-LooksUp (Lookup g name) = Unit {0}
-LooksUp op = ⊥
+-- Of the own entries that a call stands for: as long as it has no answer it waits for a brick.
+pub record CallWaitLaws (stands : Ctx → Given → AnyCall → List Own → Type 0) : Type 0 where
+  pub waits : (x : Ctx) (given : Given) (call : AnyCall) (es : List Own) → stands x given call es → (account given es).answer ≡ None → IsWaiting (account given es)
 
--- Of the own entries that a call of these stands for: as long as it has no answer it waits for a brick.
-pub record CallWaitLaws (Of : Op → Type 0) (stands : Ctx → Given → AnyCall → List Own → Type 0) : Type 0 where
-  pub waits : (x : Ctx) (given : Given) (call : AnyCall) (es : List Own) → stands x given call es → Of given.op → (account given es).answer ≡ None → IsWaiting (account given es)
-
--- Where the log of a world ends with the entries of a settled call of these, the call is answered.
-abbrev pub AnsweredInEveryWorld : (Op → Type 0) → (Ctx → Given → AnyCall → List Own → Type 0) → (Ctx → Given → List Own → Type 0) → Type 0
-AnsweredInEveryWorld Of stands by_table =
+-- Where the log of a world ends with the entries of a settled call, the call is answered.
+abbrev pub AnsweredInEveryWorld : (Ctx → Given → AnyCall → List Own → Type 0) → (Ctx → Given → List Own → Type 0) → Type 0
+AnsweredInEveryWorld stands by_table =
     (config : Config) (bricks : ℕ → State) (tree : Tree) (next : ℕ) (s : Cluster) (c : Clients AnyCall)
     → IsLogged stands by_table config bricks tree next s c
     → (earlier : List Entry) (call client : ℕ) (op : Op) (called : Step) (steps : List Step)
     → log_of s ≡ earlier ++ entries_of (called ∷ steps)
     → IsSettledCall config.geometry.n (run earlier (fresh bricks)) call client op called steps
-    → Of op
     → (run (log_of s) (fresh bricks)).answered call ≡ true

@@ -6,7 +6,7 @@
 #![tactic(auto)]
 
 ghost use Rattle.ec_clients.specs.Calls.{tabled};
-ghost use Rattle.ec_law_settled.specs.Answered.{AnsweredInEveryWorld, LooksUp, CallWaitLaws};
+ghost use Rattle.ec_law_settled.specs.Answered.{AnsweredInEveryWorld, CallWaitLaws};
 ghost use Rattle.ec_law_settled.specs.Asks.{CallAskLaws};
 ghost use Rattle.ec_law_settled.specs.Laws.{OfEverySettledCall, SettledLaws};
 ghost use Rattle.ec_law_settled.specs.Worlds.{OfEveryWorldsCall};
@@ -36,15 +36,15 @@ pub fn world_settled_laws()
     call_ask_laws();
 }
 
-/// As long as a stat, getattr or lookup has no answer, it waits for a brick. It does nothing when it runs.
+/// As long as a built call has no answer, it waits for a brick. It does nothing when it runs.
 pub fn call_wait_laws()
-    ensures { CallWaitLaws LooksUp (⟦<AnyCall as Conduct>⟧.stands) }
+    ensures { CallWaitLaws (⟦<AnyCall as Conduct>⟧.stands) }
 {}
 
-/// A settled stat, getattr or lookup is answered, whichever bricks are up and whatever their stores do: of every world whose log ends with its
-/// entries and those of the `settle` after it. It does nothing when it runs.
+/// Each settled call is answered, whichever bricks are up and whatever their stores do: of every world whose log ends with its entries and those
+/// of the `settle` after it. It does nothing when it runs.
 pub fn world_answered_laws()
-    ensures { AnsweredInEveryWorld LooksUp (⟦<AnyCall as Conduct>⟧.stands) (tabled (⟦<AnyCall as Conduct>⟧.begins) (⟦<AnyCall as Conduct>⟧.goes)) }
+    ensures { AnsweredInEveryWorld (⟦<AnyCall as Conduct>⟧.stands) (tabled (⟦<AnyCall as Conduct>⟧.begins) (⟦<AnyCall as Conduct>⟧.goes)) }
 {
     call_wait_laws();
     world_settled_laws();

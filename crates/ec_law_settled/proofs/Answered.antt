@@ -1,5 +1,5 @@
 -- In the end a settled call waits for nobody; one without an answer would wait for a brick.
-use Rattle.std.proofs.Common.{◌≡◌, ◌⊎◌, inl, inr, ℕ, ◌+◌, ◌<◌, ◌≤◌, Bool, true, false, is_some, Option, Some, None, List, [], ◌∷◌, ◌++◌, refl, sym, ap, subst, ◌∙◌, append-nil, arith}
+use Rattle.std.proofs.Common.{◌≡◌, ℕ, ◌<◌, Bool, true, false, is_some, Option, Some, None, List, [], ◌∷◌, ◌++◌, refl, sym, ap, subst, ◌∙◌, append-nil, arith}
 use Rattle.ec_attr.specs.declared.config.Config.{Config}
 use Rattle.ec_brick.specs.State.{State}
 use Rattle.ec_calls.specs.declared.any.AnyCall.{AnyCall}
@@ -12,7 +12,7 @@ use Rattle.ec_clients.specs.declared.clients.Clients.{Clients}
 use Rattle.ec_cluster.specs.Said.{said_in}
 use Rattle.ec_cluster.specs.Views.{log_of}
 use Rattle.ec_cluster.specs.declared.cluster.Cluster.{Cluster}
-use Rattle.ec_conduct.specs.Account.{Account, Wait}
+use Rattle.ec_conduct.specs.Account.{Wait}
 use Rattle.ec_conduct.specs.Given.{Given}
 use Rattle.ec_conduct.specs.Opened.{account}
 use Rattle.ec_conduct.specs.Own.{Own}

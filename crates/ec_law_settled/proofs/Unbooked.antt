@@ -1,5 +1,5 @@
 -- A call that isn't answered has no answer among its own entries, and none in its account.
-use Rattle.std.proofs.Common.{◌≡◌, ◌⊎◌, inl, inr, ℕ, Bool, true, false, cond, not, ◌&&◌, ◌||◌, Option, Some, None, List, [], ◌∷◌, ◌++◌, refl, sym, ap, subst, ◌∙◌}
+use Rattle.std.proofs.Common.{◌≡◌, inl, inr, ℕ, Bool, true, false, cond, not, ◌&&◌, ◌||◌, Option, Some, None, List, [], ◌∷◌, ◌++◌, refl, sym, ap, ◌∙◌}
 use Rattle.ec_attr.specs.declared.geometry.Geometry.{Geometry}
 use Rattle.ec_clients.specs.Come.{nothing_left}
 use Rattle.ec_conduct.specs.Account.{Account, account_from, after as account_after}
@@ -9,7 +9,6 @@ use Rattle.ec_conduct.specs.Own.{Own, Sends, Hears, GivesUp, Answers}
 use Rattle.ec_history.specs.Accounts.{Books, booked, books, hears, hears_body, own_of, sender, sends, with_own}
 use Rattle.ec_history.specs.Run.{Net, after, call_of, is_number, run}
 use Rattle.ec_history.specs.Story.{Story, told}
-use Rattle.ec_store.specs.Put.{put}
 use Rattle.ec_wire.specs.declared.answer.Answer.{Answer}
 use Rattle.ec_wire.specs.declared.entry.Entry.{Entry}
 use Rattle.ec_wire.specs.declared.entry.Entry.TheVariants.{Called, Sent, Executed, Heard, Lost, GivenUp, Stopped, Returned, Cut, Died, Yielded, Torn, Answered, Replaced}

@@ -1,5 +1,5 @@
 -- A call in a stage waits for somebody, where each stage of its table begins with a brick that it asks.
-use Rattle.std.proofs.Common.{◌≡◌, ◌≢◌, ◌⊎◌, inl, inr, ℕ, zero, suc, ◌+◌, ◌<◌, ◌≤◌, is_some, Bool, true, false, cond, refl, sym, ◌∙◌, ap, subst, List, [], ◌∷◌, ◌++◌, length, arith, Option, Some, None}
+use Rattle.std.proofs.Common.{◌≡◌, ◌≢◌, ◌⊎◌, inl, inr, ℕ, zero, suc, ◌+◌, ◌<◌, is_some, Bool, true, false, cond, refl, sym, ◌∙◌, ap, subst, List, [], ◌∷◌, ◌++◌, length, arith, Option, Some, None}
 use Rattle.std.specs.Prelude.{map}
 use Rattle.ec_conduct.specs.Account.{Account, Lock, Place as PlaceOf, Wait, after, at, sent}
 use Rattle.ec_conduct.specs.Conduct.{is_release}
@@ -12,11 +12,11 @@ use Rattle.ec_conduct.proofs.Steps.{step_account}
 use Rattle.ec_store.specs.Put.{put}
 use Rattle.ec_wire.specs.declared.answer.Answer.{Answer}
 use Rattle.ec_wire.specs.declared.request.Request.{Request}
-use Rattle.ec_wire.specs.declared.request.Request.TheVariants.{Ask, Release}
+use Rattle.ec_wire.specs.declared.request.Request.TheVariants.{Release}
 use Rattle.ec_txn.specs.declared.ctx.Ctx.{Ctx}
 use Rattle.ec_txn.specs.declared.stage.Next.{Next}
 use Rattle.ec_txn.specs.declared.stage.Next.TheVariants.{Go, Say}
-use Rattle.ec_txn.specs.Rounds.{Asks, IsFirst, IsIdle, IsIn as IsInRound, IsOn, IsReady, IsRound, IsTaken, IsUnlocked, IsWaiting, give_back, is_plain, joined, one, round, subject, unlock, where_so}
+use Rattle.ec_txn.specs.Rounds.{Asks, IsFirst, IsIdle, IsIn as IsInRound, IsOn, IsReady, IsRound, IsTaken, IsUnlocked, IsWaiting, is_plain, joined, one, round, subject, unlock, where_so}
 use Rattle.ec_txn.specs.Tables.{Begins, Goes, IsIn, IsOf, IsSound, Table, asked_again}
 use Rattle.ec_txn.proofs.Again.{again_sent, none_again}
 use Rattle.ec_txn.proofs.Lists.{sent_append}

@@ -1,5 +1,5 @@
 -- A create and a mkdir wait for a brick in each stage.
-use Rattle.std.proofs.Common.{◌≡◌, inl, inr, ℕ, ◌^◌, ◌<◌, ◌≤◌, ◌&&◌, nat_le, nat_lt, is_some, Bool, true, false, cond, refl, sym, ◌∙◌, ap, subst, arith, List, Option, Some, None}
+use Rattle.std.proofs.Common.{◌≡◌, ℕ, ◌^◌, ◌<◌, nat_le, true, refl, sym, ◌∙◌, subst, arith, Some, None}
 use Rattle.std.proofs.lemmas.Bool.Decides.{nat_tests}
 use Rattle.ec_answers.specs.declared.grouped.Group.{Group}
 use Rattle.ec_answers.specs.declared.grouped.Grouped.{Grouped}
@@ -9,7 +9,7 @@ use Rattle.ec_attr.specs.declared.kind.Kind.TheVariants.{File, Dir}
 use Rattle.ec_attr.specs.declared.kind.LockKind.TheVariants.{Exclusive}
 use Rattle.ec_conduct.specs.Account.{Account}
 use Rattle.ec_conduct.specs.Ballots.{attr_after, size_after}
-use Rattle.ec_conduct.specs.Given.{Given, bricks_of, quorum_of}
+use Rattle.ec_conduct.specs.Given.{Given, bricks_of}
 use Rattle.ec_entry.specs.Make.{BallotGoes, DuringMake, InMake, InVotes, MakeFollows, MakeJudges, child_of, entry_request, first_stage, made_request, make_asks, make_request, make_table, name_next, of_kind, where_all}
 use Rattle.ec_entry.specs.declared.make.MakeStage.{MakeStage}
 use Rattle.ec_entry.specs.declared.make.MakeStage.TheVariants.{Opens as OpensAt, Name, Votes, Makes, Enters, Made}
@@ -23,7 +23,7 @@ use Rattle.ec_txn.specs.declared.ballot.Ballot.{Ballot}
 use Rattle.ec_txn.specs.declared.ballot.Ballot.TheVariants.{Pre, Post, Clear}
 use Rattle.ec_txn.specs.declared.ctx.Ctx.{Ctx}
 use Rattle.ec_txn.specs.declared.opening.Opening.TheVariants.{Lock as Locking, Query}
-use Rattle.ec_txn.specs.declared.stage.Next.TheVariants.{Go, Say}
+use Rattle.ec_txn.specs.declared.stage.Next.TheVariants.{Go}
 use Rattle.ec_wire.specs.declared.answer.Answer.TheVariants.{Child, Exists, Limit, NoQuorum, NoSuch, NotDir, Spent, Split}
 use Rattle.ec_wire.specs.declared.phase.Phase.TheVariants.{Entry as EntryPhase, Make as MakePhase, Name as NamePhase, Pre as PrePhase, Post as PostPhase, Query as QueryPhase}
 use Rattle.ec_law_causes.proofs.Along.{NonePast, windows}

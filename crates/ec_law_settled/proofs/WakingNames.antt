@@ -1,8 +1,7 @@
 -- A stage that asks the good group under its locks asks a brick of it: the name of a lookup.
-use Rattle.std.proofs.Common.{◌≡◌, ◌⊎◌, inl, inr, ℕ, ◌<◌, ◌≤◌, ◌&&◌, nat_lt, is_some, Bool, true, false, cond, refl, sym, ◌∙◌, ap, subst, arith, List, [], ◌∷◌, length, Option, Some, None}
+use Rattle.std.proofs.Common.{◌≡◌, inl, inr, ℕ, ◌<◌, nat_lt, is_some, true, refl, sym, ◌∙◌, ap, subst, arith, List, [], ◌∷◌, length, Option, Some, None}
 use Rattle.std.specs.Option.{option_map}
 use Rattle.std.proofs.lemmas.Bool.{cases_lt}
-use Rattle.std.proofs.lemmas.Bool.Decides.{nat_tests}
 use Rattle.ec_answers.specs.declared.grouped.Group.{Group}
 use Rattle.ec_answers.specs.declared.grouped.Grouped.{Grouped}
 use Rattle.ec_answers.specs.declared.grouped.Grouped.TheVariants.{Group as Found, Gone, Fewer}
@@ -15,9 +14,9 @@ use Rattle.ec_attr.specs.declared.kind.Kind.TheVariants.{File, Dir}
 use Rattle.ec_attr.specs.declared.kind.LockKind.TheVariants.{Shared}
 use Rattle.ec_conduct.specs.Account.{Account, Lock, at}
 use Rattle.ec_conduct.specs.Given.{Given, bricks_of, quorum_of}
-use Rattle.ec_conduct.specs.Group.{Heads, first_head, good_group, group_head, is_good}
+use Rattle.ec_conduct.specs.Group.{Heads, first_head, good_group, is_good}
 use Rattle.ec_conduct.specs.Standing.{is_held}
-use Rattle.ec_entry.specs.Lookup.{DuringLookup, InLookup, LookupFollows, LookupJudges, lookup_answer, lookup_asks, lookup_table, name_in, of_kind}
+use Rattle.ec_entry.specs.Lookup.{DuringLookup, InLookup, LookupFollows, LookupJudges, lookup_answer, lookup_asks, lookup_table, of_kind}
 use Rattle.ec_entry.specs.declared.lookup.LookupStage.{LookupStage}
 use Rattle.ec_entry.specs.declared.lookup.LookupStage.TheVariants.{Opens as OpensAt, Name}
 use Rattle.ec_txn.specs.Fetching.{asks_of, under}
@@ -26,9 +25,8 @@ use Rattle.ec_txn.specs.Rounds.{Asks, IsIdle, IsRound, subject}
 use Rattle.ec_txn.specs.Tables.{IsIn}
 use Rattle.ec_txn.specs.declared.ctx.Ctx.{Ctx}
 use Rattle.ec_txn.specs.declared.opening.Opening.TheVariants.{Lock as Locking, Query}
-use Rattle.ec_txn.specs.declared.stage.Next.TheVariants.{Go, Say}
+use Rattle.ec_txn.specs.declared.stage.Next.TheVariants.{Go}
 use Rattle.ec_wire.specs.declared.answer.Answer.TheVariants.{NoQuorum, NoSuch, NotDir}
-use Rattle.ec_wire.specs.declared.answer.Answer.{Answer}
 use Rattle.ec_wire.specs.declared.phase.Phase.TheVariants.{Query as QueryPhase}
 use Rattle.ec_wire.specs.declared.request.Request.{Request}
 use Rattle.ec_law_causes.specs.Counted.{Windows, head_in, heads_in, is_grouped}

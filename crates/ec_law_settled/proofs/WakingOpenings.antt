@@ -1,5 +1,5 @@
 -- How each call begins: a brick is asked for its lock, one after another, and then those that granted it for their heads.
-use Rattle.std.proofs.Common.{◌≡◌, ◌⊎◌, inl, inr, ℕ, ◌+◌, ◌<◌, ◌≤◌, ◌==◌, nat_le, nat_lt, is_some, Bool, true, false, cond, refl, sym, ◌∙◌, ap, subst, arith, Option, Some, None}
+use Rattle.std.proofs.Common.{◌≡◌, ◌⊎◌, inl, inr, ℕ, ◌+◌, ◌<◌, ◌≤◌, ◌==◌, nat_le, nat_lt, is_some, Bool, true, false, cond, refl, sym, ◌∙◌, subst, arith, Option, Some, None}
 use Rattle.std.proofs.lemmas.Bool.Decides.{nat_tests}
 use Rattle.ec_answers.specs.declared.grouped.Grouped.{Grouped}
 use Rattle.ec_attr.specs.declared.kind.Domain.TheVariants.{Inode}
@@ -12,7 +12,7 @@ use Rattle.ec_conduct.specs.Standing.{is_held}
 use Rattle.ec_entry.specs.GetAttr.{DuringGetAttr, GetAttrJudges, getattr_answer, getattr_table}
 use Rattle.ec_read.specs.Stat.{DuringStat, StatJudges, stat_answer, stat_table}
 use Rattle.ec_txn.specs.Opening.{OpeningFollows, count_locks, opening_asks, query_of}
-use Rattle.ec_txn.specs.Rounds.{Asks, IsIdle, IsRound, subject}
+use Rattle.ec_txn.specs.Rounds.{Asks, IsRound, subject}
 use Rattle.ec_txn.specs.Tables.{IsIn}
 use Rattle.ec_txn.specs.declared.ctx.Ctx.{Ctx}
 use Rattle.ec_txn.specs.declared.opening.Opening.{Opening}
@@ -22,7 +22,6 @@ use Rattle.ec_txn.specs.declared.stage.Next.TheVariants.{Go, Say}
 use Rattle.ec_wire.specs.declared.answer.Answer.{Answer}
 use Rattle.ec_wire.specs.declared.request.Request.{Request}
 use Rattle.ec_wire.specs.declared.request.Request.TheVariants.{Ask, Query as QueryOf}
-use Rattle.ec_law_causes.proofs.Along.{NonePast}
 use Rattle.ec_law_causes.proofs.OpeningSteps.{go_same, go_say}
 use Rattle.ec_law_causes.proofs.Stat.{HereStat}
 use Rattle.ec_law_causes.proofs.Walking.{some_below}

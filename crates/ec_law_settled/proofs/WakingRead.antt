@@ -1,9 +1,8 @@
 -- A read waits for a brick in each stage.
-use Rattle.std.proofs.Common.{◌≡◌, inl, inr, ℕ, ◌^◌, ◌<◌, ◌≤◌, ◌==◌, ◌&&◌, nat_lt, Bool, true, false, cond, refl, sym, ◌∙◌, ap, subst, arith, List, []}
+use Rattle.std.proofs.Common.{◌≡◌, inl, inr, ℕ, ◌^◌, ◌<◌, ◌==◌, nat_lt, Bool, true, false, cond, refl, sym, ◌∙◌, subst, arith, []}
 use Rattle.std.proofs.Math.Path.{fun_ext}
 use Rattle.std.proofs.lemmas.Bool.{and_parts}
 use Rattle.std.proofs.lemmas.Bool.Decides.{nat_tests}
-use Rattle.ec_answers.specs.declared.grouped.Group.{Group}
 use Rattle.ec_answers.specs.declared.grouped.Grouped.{Grouped}
 use Rattle.ec_answers.specs.declared.grouped.Grouped.TheVariants.{Group as Found, Gone, Fewer}
 use Rattle.ec_attr.specs.Bricks.{count_below, is_in}
@@ -27,9 +26,8 @@ use Rattle.ec_wire.specs.declared.answer.Answer.TheVariants.{Bytes, IsDir, NoQuo
 use Rattle.ec_wire.specs.declared.phase.Phase.TheVariants.{Query as QueryPhase, Read as ReadPhase}
 use Rattle.ec_law_causes.specs.Counted.{Windows, is_grouped}
 use Rattle.ec_law_causes.proofs.Along.{NonePast, windows}
-use Rattle.ec_law_causes.proofs.OpeningSteps.{go_same, go_say, queried, querying}
+use Rattle.ec_law_causes.proofs.OpeningSteps.{go_same, go_say, querying}
 use Rattle.ec_law_causes.proofs.Openings.{HereOpening}
-use Rattle.ec_law_causes.proofs.Queried.{JudgedIn, judged}
 use Rattle.ec_law_causes.proofs.Read.{HereRead}
 use Rattle.ec_law_causes.proofs.Walking.{some_below}
 use Rattle.ec_law_settled.proofs.Waking.{Someone, Wakes}

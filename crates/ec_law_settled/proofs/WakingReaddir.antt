@@ -1,5 +1,5 @@
 -- A readdir waits for a brick in each round.
-use Rattle.std.proofs.Common.{◌≡◌, inl, inr, ℕ, ◌<◌, ◌≤◌, ◌&&◌, nat_lt, is_some, Bool, true, false, cond, refl, sym, ◌∙◌, ap, subst, arith, List, [], ◌++◌, Option, Some, None}
+use Rattle.std.proofs.Common.{◌≡◌, inl, inr, ℕ, ◌<◌, ◌≤◌, nat_lt, is_some, Bool, true, false, cond, refl, sym, ◌∙◌, ap, subst, arith, List, [], ◌++◌, Option, Some, None}
 use Rattle.ec_answers.specs.declared.grouped.Group.{Group}
 use Rattle.ec_answers.specs.declared.grouped.Grouped.{Grouped}
 use Rattle.ec_answers.specs.declared.grouped.Grouped.TheVariants.{Group as Found, Gone, Fewer}
@@ -23,7 +23,7 @@ use Rattle.ec_txn.specs.Rounds.{Asks, IsIdle, IsIn as IsInRound, IsRound, IsUnlo
 use Rattle.ec_txn.specs.Tables.{IsIn}
 use Rattle.ec_txn.specs.declared.ctx.Ctx.{Ctx}
 use Rattle.ec_txn.specs.declared.opening.Opening.TheVariants.{Lock as Locking, Query}
-use Rattle.ec_txn.specs.declared.stage.Next.TheVariants.{Go, Say}
+use Rattle.ec_txn.specs.declared.stage.Next.TheVariants.{Go}
 use Rattle.ec_txn.proofs.Ballots.{unlocked_serving}
 use Rattle.ec_wire.specs.declared.answer.Answer.TheVariants.{Names as NamesAre, NoQuorum, NoSuch, NotDir}
 use Rattle.ec_wire.specs.declared.phase.Phase.TheVariants.{Names as NamesPhase, Query as QueryPhase}

@@ -1,11 +1,10 @@
 -- A stage that reads chunks begins with a brick that it asks, where one of its set did all it was asked.
-use Rattle.std.proofs.Common.{◌≡◌, ℕ, ◌+◌, ◌<◌, ◌≤◌, ◌&&◌, ◌||◌, not, nat_lt, is_some, Bool, true, false, refl, sym, ◌∙◌, ap, subst, arith, List, [], ◌∷◌, Option, Some, None}
+use Rattle.std.proofs.Common.{◌≡◌, ℕ, ◌<◌, ◌≤◌, ◌&&◌, ◌||◌, not, nat_lt, is_some, Bool, true, false, refl, sym, ◌∙◌, ap, subst, arith, List, [], ◌∷◌, Option, Some, None}
 use Rattle.std.proofs.lemmas.Bool.{and_parts}
-use Rattle.std.proofs.lemmas.Bool.Decides.{nat_tests}
 use Rattle.ec_answers.specs.declared.grouped.Group.{Group}
 use Rattle.ec_answers.proofs.Counting.{count_of_none}
 use Rattle.ec_attr.specs.Bricks.{count_below, is_in}
-use Rattle.ec_conduct.specs.Account.{Account, Exchange, Lock, at}
+use Rattle.ec_conduct.specs.Account.{Account, Exchange, at}
 use Rattle.ec_conduct.specs.Done.{failed_none, is_any, is_done, tried}
 use Rattle.ec_conduct.specs.Given.{Given, bricks_of, quorum_of}
 use Rattle.ec_conduct.specs.Phases.{is_read_from}

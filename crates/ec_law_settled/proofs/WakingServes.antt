@@ -1,5 +1,5 @@
 -- Bricks that did all they were asked so far.
-use Rattle.std.proofs.Common.{◌≡◌, ℕ, ◌<◌, ◌≤◌, ◌&&◌, ◌||◌, is_some, Bool, true, false, cond, refl, sym, ◌∙◌, ap, subst, arith, List, ◌∷◌, Option, Some, None}
+use Rattle.std.proofs.Common.{◌≡◌, ℕ, ◌<◌, ◌≤◌, ◌&&◌, ◌||◌, is_some, Bool, true, false, refl, sym, ◌∙◌, ap, subst, arith, Option, Some, None}
 use Rattle.ec_answers.specs.declared.grouped.Group.{Group}
 use Rattle.ec_attr.specs.Bricks.{count_below, is_in}
 use Rattle.ec_attr.specs.declared.kind.LockKind.{LockKind}
@@ -7,7 +7,7 @@ use Rattle.ec_conduct.specs.Account.{Account, Exchange, Lock, Place as PlaceOf, 
 use Rattle.ec_conduct.specs.Done.{is_done, is_name, is_query, reply_to}
 use Rattle.ec_conduct.specs.Given.{Given, bricks_of, quorum_of}
 use Rattle.ec_conduct.specs.Standing.{head_of}
-use Rattle.ec_entry.specs.Named.{Value, value_in}
+use Rattle.ec_entry.specs.Named.{value_in}
 use Rattle.ec_wire.specs.declared.phase.Phase.TheVariants.{Name as NamePhase}
 use Rattle.ec_wire.specs.declared.reply.Reply.{Reply}
 use Rattle.ec_wire.specs.declared.reply.Reply.TheVariants.{Head as HeadIs, Child as ChildIs}
@@ -21,7 +21,7 @@ use Rattle.ec_txn.proofs.Ballots.{grant_is, is_granted_of, serves_by, serving_is
 use Rattle.ec_txn.proofs.Openings.{over_in}
 use Rattle.ec_law_causes.specs.Counted.{is_grouped, number, reply_in}
 use Rattle.ec_law_causes.proofs.Along.{NonePast, windows}
-use Rattle.ec_law_causes.proofs.Members.{grouped_below, none_grouped}
+use Rattle.ec_law_causes.proofs.Members.{none_grouped}
 use Rattle.ec_law_causes.proofs.Naming.{HereNaming, naming_members}
 use Rattle.ec_law_causes.proofs.Openings.{HereOpening}
 use Rattle.ec_law_causes.proofs.OpeningSteps.{querying}

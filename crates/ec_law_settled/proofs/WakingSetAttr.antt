@@ -1,11 +1,11 @@
 -- A setattr and a readdir wait for a brick in each stage.
-use Rattle.std.proofs.Common.{◌≡◌, inl, inr, ℕ, ◌<◌, ◌≤◌, ◌&&◌, nat_le, is_some, Bool, true, false, cond, refl, sym, ◌∙◌, ap, subst, arith, List, Option, Some, None}
+use Rattle.std.proofs.Common.{◌≡◌, nat_le, cond, refl, sym, ◌∙◌, subst}
 use Rattle.ec_answers.specs.declared.grouped.Grouped.{Grouped}
 use Rattle.ec_answers.specs.declared.grouped.Grouped.TheVariants.{Group as Found, Gone, Fewer}
 use Rattle.ec_attr.specs.declared.kind.LockKind.TheVariants.{Exclusive}
 use Rattle.ec_conduct.specs.Account.{Account}
 use Rattle.ec_conduct.specs.Ballots.{attr_after, size_after}
-use Rattle.ec_conduct.specs.Given.{Given, bricks_of, quorum_of}
+use Rattle.ec_conduct.specs.Given.{Given, bricks_of}
 use Rattle.ec_entry.specs.SetAttr.{DuringSetAttr, InSetAttr, SetAttrFollows, SetAttrJudges, setattr_asks, setattr_table, told}
 use Rattle.ec_entry.specs.declared.setattr.SetAttrStage.{SetAttrStage}
 use Rattle.ec_entry.specs.declared.setattr.SetAttrStage.TheVariants.{Opens as OpensAt, Votes}

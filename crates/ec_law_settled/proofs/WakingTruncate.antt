@@ -1,5 +1,5 @@
 -- A truncate waits for a brick in each stage.
-use Rattle.std.proofs.Common.{◌≡◌, ◌⊎◌, inl, inr, ℕ, ◌^◌, ◌<◌, ◌≤◌, ◌==◌, nat_le, nat_lt, Bool, true, false, cond, refl, sym, ◌∙◌, ap, subst, arith, List}
+use Rattle.std.proofs.Common.{◌≡◌, inl, inr, ℕ, ◌^◌, ◌≤◌, ◌==◌, nat_le, nat_lt, Bool, true, false, cond, refl, sym, ◌∙◌, subst, List}
 use Rattle.ec_answers.specs.declared.grouped.Group.{Group}
 use Rattle.ec_answers.specs.declared.grouped.Grouped.{Grouped}
 use Rattle.ec_answers.specs.declared.grouped.Grouped.TheVariants.{Group as Found, Gone, Fewer}

@@ -1,5 +1,5 @@
 -- A write waits for a brick in each stage.
-use Rattle.std.proofs.Common.{◌≡◌, ◌⊎◌, inl, inr, ℕ, ◌+◌, ◌^◌, ◌<◌, ◌≤◌, ◌==◌, nat_le, nat_lt, Bool, true, false, cond, refl, sym, ◌∙◌, ap, subst, arith, List, [], length, Option, Some, None}
+use Rattle.std.proofs.Common.{◌≡◌, inl, inr, ℕ, ◌+◌, ◌^◌, ◌≤◌, ◌==◌, nat_le, nat_lt, Bool, true, false, cond, refl, sym, ◌∙◌, subst, arith, List, [], length, Option, Some, None}
 use Rattle.std.proofs.lemmas.Bool.Decides.{nat_tests}
 use Rattle.ec_answers.specs.declared.grouped.Group.{Group}
 use Rattle.ec_answers.specs.declared.grouped.Grouped.{Grouped}

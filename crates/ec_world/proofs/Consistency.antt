@@ -26,7 +26,7 @@ use Rattle.ec_law_causes.specs.Laws.{WorldCauseLaws}
 use Rattle.ec_law_heads.specs.Worlds.{WorldHeadLaws}
 use Rattle.ec_law_names.specs.Laws.{WorldNameLaws}
 use Rattle.ec_law_parts.specs.Laws.{WorldFlatLaws}
-use Rattle.ec_law_settled.specs.Answered.{AnsweredInEveryWorld, LooksUp}
+use Rattle.ec_law_settled.specs.Answered.{AnsweredInEveryWorld}
 use Rattle.ec_law_sizes.specs.Records.{WorldSizeLaws}
 use Rattle.ec_law_stands.specs.Laws.{WorldStandLaws}
 use Rattle.ec_law_stripes.specs.HeldStripes.{WorldHeldLaws}
@@ -114,7 +114,7 @@ from_beginning stands by_table w geometry next first coded same empty h = record
 }
 
 -- all is consistent at each moment of the log of a world
-pub consistency_laws : (stands : Ctx → Given → AnyCall → List Own → Type 0) (by_table : Ctx → Given → List Own → Type 0) → WorldLaws stands by_table → AnswerLaws stands by_table → CommitLaws stands by_table → WorldFlatLaws stands by_table → WorldHeadLaws stands by_table → WorldNameLaws stands by_table → WorldCauseLaws stands by_table → WorldSizeLaws stands by_table → WorldHeldLaws stands by_table → WorldStandLaws stands by_table → AnsweredInEveryWorld LooksUp stands by_table → ConsistencyLaws stands by_table
+pub consistency_laws : (stands : Ctx → Given → AnyCall → List Own → Type 0) (by_table : Ctx → Given → List Own → Type 0) → WorldLaws stands by_table → AnswerLaws stands by_table → CommitLaws stands by_table → WorldFlatLaws stands by_table → WorldHeadLaws stands by_table → WorldNameLaws stands by_table → WorldCauseLaws stands by_table → WorldSizeLaws stands by_table → WorldHeldLaws stands by_table → WorldStandLaws stands by_table → AnsweredInEveryWorld stands by_table → ConsistencyLaws stands by_table
 consistency_laws stands by_table laws answers commits flats heads names causes sizes stripes bricks_stand settled config records bricks tree next w start of_volume from runs = record {
   no_two_alike = λ g call es rest parts. laws.no_two_alike config records bricks tree next g call w.cluster w.clients start logged es rest parts;
   above_others = λ g call es rest parts. laws.above_others config records bricks tree next g call w.cluster w.clients start logged es rest parts;
@@ -127,7 +127,7 @@ consistency_laws stands by_table laws answers commits flats heads names causes s
   names_held = λ g es rest parts. names.held config records bricks tree next g w.cluster w.clients start logged es rest parts;
   stand = λ g es rest parts. bricks_stand.stand config records bricks tree next g w.cluster w.clients start logged es rest parts;
   may_begin_again = λ es rest parts. bricks_stand.again config records bricks tree next 0 w.cluster w.clients start logged es rest parts;
-  settled_is_answered = λ earlier call client op called steps parts is looks. settled config bricks tree next w.cluster w.clients logged earlier call client op called steps parts is looks;
+  settled_is_answered = λ earlier call client op called steps parts is. settled config bricks tree next w.cluster w.clients logged earlier call client op called steps parts is;
   in_order = λ es rest parts. laws.in_order config bricks tree next w.cluster w.clients logged es rest parts;
   answered_with_cause = λ es rest call answer parts. causes.cause config bricks tree next w.cluster w.clients logged es rest call answer parts;
 }

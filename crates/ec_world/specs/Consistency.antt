@@ -26,7 +26,6 @@ use Rattle.ec_law_net.specs.Start.{first_view}
 use Rattle.ec_law_net.specs.Turns.{view}
 use Rattle.ec_law_parts.specs.Laws.{AgreesAtFlatFile}
 use Rattle.ec_law_quorum.specs.Laws.{AboveOthers, NoTwoAlike}
-use Rattle.ec_law_settled.specs.Answered.{LooksUp}
 use Rattle.ec_law_settled.specs.Settled.{IsSettledCall}
 use Rattle.ec_law_sizes.specs.Sizes.{AreSized}
 use Rattle.ec_law_stands.specs.Laws.{MayBeginAgain, StandAfter}
@@ -84,7 +83,7 @@ pub record IsConsistent (config : Config) (records : ℕ → Records) (bricks : 
   pub stand : (g : ℕ) (es rest : List Entry) → log ≡ es ++ rest → StandAfter config records bricks tree next g es
   pub may_begin_again : (es rest : List Entry) → log ≡ es ++ rest → MayBeginAgain config records bricks tree next 0 es
   pub settled_is_answered : (earlier : List Entry) (call client : ℕ) (op : Op) (called : Step) (steps : List Step) → log ≡ earlier ++ entries_of (called ∷ steps)
-      → IsSettledCall config.geometry.n (run earlier (fresh bricks)) call client op called steps → LooksUp op → (run log (fresh bricks)).answered call ≡ true
+      → IsSettledCall config.geometry.n (run earlier (fresh bricks)) call client op called steps → (run log (fresh bricks)).answered call ≡ true
   pub in_order : (es rest : List Entry) → log ≡ es ++ rest → IsInOrder config bricks tree next es
   pub answered_with_cause : (es rest : List Entry) (call : ℕ) (answer : Answer) → log ≡ es ++ Answered call answer ∷ rest → HasCauseInLog config bricks tree next log call answer
 

@@ -73,7 +73,7 @@ module _ (n call client : ℕ) (m : Net) (counted : IsCounted n m) (h : IsCalm n
   own_of (Release g c) e o = absurd (cc)
   own_of r e o = o
 
-  own : is_release may.request ≡ false → (may.message.call ≡ call) × (may.message.client ≡ client)
+  pub own : is_release may.request ≡ false → (may.message.call ≡ call) × (may.message.client ≡ client)
   own e = own_of may.request e (subst (λ (z : Body). IsOwnBody call client may.message z) may.at.body (h.flies i may.message may.at.said may.at.flying))
 
   mine : is_ask_of may.request ≡ true → AsksLock m.said call may.message.brick i

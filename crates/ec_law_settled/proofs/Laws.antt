@@ -1,12 +1,12 @@
 -- The laws of settled calls.
-use Rattle.std.proofs.Common.{◌≡◌, ℕ, true, false, Option, Some, None, List, [], ◌∷◌, ◌++◌, refl, sym, ap, subst, ◌∙◌}
+use Rattle.std.proofs.Common.{◌≡◌, ℕ, Bool, true, false, Option, Some, None, List, [], ◌∷◌, ◌++◌, refl, sym, ap, subst, ◌∙◌}
 use Rattle.ec_brick.specs.State.{State}
 use Rattle.ec_history.proofs.Runs.{front, joins, rest}
-use Rattle.ec_history.specs.IsRun.{IsRun}
+use Rattle.ec_history.specs.IsRun.{IsRun, MayExecute}
 use Rattle.ec_history.specs.Run.{Net, after, fresh, run}
 use Rattle.ec_history.specs.Script.{IsSettled, Step, entries_of}
 use Rattle.ec_wire.specs.declared.entry.Entry.{Entry}
-use Rattle.ec_wire.specs.declared.entry.Entry.TheVariants.{Called, Sent, Heard}
+use Rattle.ec_wire.specs.declared.entry.Entry.TheVariants.{Called, Sent, Executed, Heard}
 use Rattle.ec_wire.specs.declared.message.Body.TheVariants.{ToBrick, ToClient}
 use Rattle.ec_wire.specs.declared.message.Message.{Message}
 use Rattle.ec_wire.specs.declared.op.Op.{Op}
@@ -15,12 +15,15 @@ use Rattle.ec_wire.specs.declared.request.Request.{Request}
 use Rattle.ec_law_settled.specs.Calm.{AllSend, AsksOnce, IsCalmEntry}
 use Rattle.ec_law_settled.specs.Laws.{AreDelivered, AreHeard, GoesCalmly, IsExecuted, OfEverySettledCall, SettledLaws, StayDead, StayUp, WaitsForNobody}
 use Rattle.ec_law_settled.specs.Settled.{Has, IsQuiet, IsSettledCall}
+use Rattle.ec_law_settled.specs.Unchanged.{ExecutesOwn, IsOwnRequest, UnchangedLaws}
 use Rattle.ec_law_settled.proofs.Along.{AllCome, calm_along, come_follow, come_front, come_join, come_rest, dead_along, executed_along, heard_along, once_before, send_front, send_rest, steps_come, up_along}
 use Rattle.ec_law_settled.proofs.Calm.{IsCalm}
 use Rattle.ec_law_settled.proofs.Counted.{IsCounted, comes, counted, fresh_counted}
 use Rattle.ec_law_settled.proofs.Entries.{entry_is}
+use Rattle.ec_law_settled.proofs.Executes.{own}
 use Rattle.ec_law_settled.proofs.Moves.{called_calm, none_queued}
 use Rattle.ec_law_settled.proofs.Places.{put_here}
+use Rattle.ec_law_settled.proofs.Unchanged.{flats_law, records_law}
 
 first_is : (e f : Entry) (es fs : List Entry) → e ∷ es ≡ f ∷ fs → e ≡ f
 first_is e f es fs x = cc
@@ -90,6 +93,28 @@ module _ (n call client : ℕ) (op : Op) (m : Net) (counted_before : IsCounted n
   stay_dead : StayDead n m call (Called call client op ∷ tail)
   stay_dead [] fs c parts = refl
   stay_dead (f ∷ es) fs c parts = subst (λ (z : Entry). (run es (after m z)).dead c ≡ m.dead c) (first_is (Called call client op) f tail (es ++ fs) parts) (then_dead es fs (others_are (Called call client op) f tail (es ++ fs) parts) c)
+
+  -- what is executed is the call's
+  executes_own : ExecutesOwn n m call (Called call client op ∷ tail)
+  executes_own [] fs i version failed parts = absurd (not_executed i version failed (first_is (Called call client op) (Executed i version failed) tail fs parts))
+    where
+      not_executed : (i : ℕ) (version : Option ℕ) (failed : Bool) → Called call client op ≡ Executed i version failed → ⊥
+      not_executed i version failed e = cc
+  executes_own (f ∷ es) fs i version failed parts = subst (λ (z : Entry). IsOwnRequest (run es (after m z)) call i) (first_is (Called call client op) f tail (es ++ Executed i version failed ∷ fs) parts)
+      (own_later (others_are (Called call client op) f tail (es ++ Executed i version failed ∷ fs) parts))
+    where
+      own_later : tail ≡ es ++ Executed i version failed ∷ fs → IsOwnRequest (run es begun) call i
+      own_later parts =
+          let on = Executed i version failed ∷ fs in
+          let may : MayExecute (run es begun) i version failed = (rest n es on begun (runs_so es on parts)).0 in
+          record {
+            message = may.message;
+            request = may.request;
+            said = may.at.said;
+            body = may.at.body;
+            own = λ speaks. (own n call client (run es begun) (then_counted es on parts) (then_calm es on parts) (then_once es on parts) i version failed may speaks).0;
+            up = may.at.up;
+          }
 
   end_calm : IsCalm n (run tail begun) call client
   end_calm = calm_along n call client tail begun runs.1 come sends.1 begun_counted once begun_calm
@@ -192,6 +217,12 @@ module _ (n : ℕ) (bricks : ℕ → State) (earlier : List Entry) (call client 
 
   heard_law : AreHeard n start call (entries_of (called ∷ steps))
   heard_law = of_named AreHeard (heard n call client op start start_counted s.quiet tail goes_on come_called send_called settled_called once_called)
+
+  own_law : ExecutesOwn n start call (entries_of (called ∷ steps))
+  own_law = of_named ExecutesOwn (executes_own n call client op start start_counted s.quiet tail goes_on come_called send_called settled_called once_called)
+
+pub unchanged : UnchangedLaws OfEverySettledCall
+unchanged = record { own = own_law; records = records_law calm_law; flats = flats_law calm_law }
 
 pub laws : SettledLaws OfEverySettledCall
 laws = record { calm = calm_law; up = up_law; dead = dead_law; waits = waits_law; delivered = delivered_law; heard = heard_law }

@@ -7,6 +7,7 @@ pub mod Executes
 pub mod Moves
 pub mod Entries
 pub mod Along
+pub mod Unchanged
 pub mod Laws
 pub mod Asks
 pub mod Booked

@@ -35,6 +35,7 @@ use Rattle.ec_law_calls.specs.World.{IsLogged}
 use Rattle.ec_law_settled.specs.Asks.{CallAskLaws, asks_at, count_asks}
 use Rattle.ec_law_settled.specs.Calm.{AllSend, AsksLock, AsksOnce, is_ask}
 use Rattle.ec_law_settled.specs.Laws.{AreDelivered, AreHeard, GoesCalmly, OfEverySettledCall, SettledLaws, StayDead, StayUp, WaitsForNobody}
+use Rattle.ec_law_settled.specs.Unchanged.{ExecutesOwn, FlatsStay, RecordsStay, UnchangedLaws}
 use Rattle.ec_law_settled.specs.Worlds.{OfEveryWorldsCall}
 use Rattle.ec_law_settled.proofs.Along.{once_before, send_front, send_rest}
 use Rattle.ec_law_settled.proofs.Booked.{EndsWell, all_send, none_answered}
@@ -206,4 +207,11 @@ world_laws stands by_table asks laws = record {
   waits = of_worlds stands by_table asks WaitsForNobody laws.waits;
   delivered = of_worlds stands by_table asks AreDelivered laws.delivered;
   heard = of_worlds stands by_table asks AreHeard laws.heard;
+}
+
+pub world_unchanged : (stands : Ctx → Given → AnyCall → List Own → Type 0) (by_table : Ctx → Given → List Own → Type 0) → CallAskLaws stands → UnchangedLaws OfEverySettledCall → UnchangedLaws (OfEveryWorldsCall stands by_table)
+world_unchanged stands by_table asks laws = record {
+  own = of_worlds stands by_table asks ExecutesOwn laws.own;
+  records = of_worlds stands by_table asks RecordsStay laws.records;
+  flats = of_worlds stands by_table asks FlatsStay laws.flats;
 }

@@ -5,3 +5,4 @@ pub mod Calm
 pub mod Laws
 pub mod Worlds
 pub mod Answered
+pub mod Unchanged

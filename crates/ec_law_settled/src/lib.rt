@@ -1,14 +1,15 @@
 // Calls that are settled: made while nothing else is under way, and followed by `settle`.
 //
 // `Settled` says which calls these are, and `Serving` which bricks can serve them and what they are to be answered then. `Calm` says
-// what comes of each entry of such a call, and `Laws` what follows of all. `Asks` says how often a call asks a brick for a lock, `Worlds` and
-// `Answered` what follows of the log of a world. Nothing of it runs.
+// what comes of each entry of such a call, and `Laws` what follows of all; `Unchanged` says what nothing changes meanwhile. `Asks` says how often a call
+// asks a brick for a lock, `Worlds` and `Answered` what follows of the log of a world. Nothing of it runs.
 #![tactic(auto)]
 
 ghost use Rattle.ec_clients.specs.Calls.{tabled};
 ghost use Rattle.ec_law_settled.specs.Answered.{AnsweredInEveryWorld, CallWaitLaws};
 ghost use Rattle.ec_law_settled.specs.Asks.{CallAskLaws};
 ghost use Rattle.ec_law_settled.specs.Laws.{OfEverySettledCall, SettledLaws};
+ghost use Rattle.ec_law_settled.specs.Unchanged.{UnchangedLaws};
 ghost use Rattle.ec_law_settled.specs.Worlds.{OfEveryWorldsCall};
 
 use ec_calls::AnyCall;
@@ -33,6 +34,22 @@ pub fn world_settled_laws()
     ensures { SettledLaws (OfEveryWorldsCall (⟦<AnyCall as Conduct>⟧.stands) (tabled (⟦<AnyCall as Conduct>⟧.begins) (⟦<AnyCall as Conduct>⟧.goes))) }
 {
     settled_laws();
+    call_ask_laws();
+}
+
+/// In each log that is a run, of the entries of each settled call: a brick executes requests of this call alone, and Releases; and until a
+/// request is executed that may alter records, each brick has the records that it had, and the flat files are as they were. It does nothing
+/// when it runs.
+#[tactic(auto, using(crate::proofs::Laws::unchanged))]
+pub fn unchanged_laws()
+    ensures { UnchangedLaws OfEverySettledCall }
+{}
+
+/// The same holds of each settled call in the log of a world. It does nothing when it runs.
+pub fn world_unchanged_laws()
+    ensures { UnchangedLaws (OfEveryWorldsCall (⟦<AnyCall as Conduct>⟧.stands) (tabled (⟦<AnyCall as Conduct>⟧.begins) (⟦<AnyCall as Conduct>⟧.goes))) }
+{
+    unchanged_laws();
     call_ask_laws();
 }
 

@@ -1,17 +1,14 @@
 -- Requests that alter no records leave them, and leave the flat files.
-use Rattle.std.proofs.Common.{◌≡◌, inl, inr, ℕ, ◌+◌, Bool, true, false, cond, Option, Some, None, List, [], ◌∷◌, ◌++◌, refl, sym, ap, subst, ◌∙◌}
+use Rattle.std.proofs.Common.{◌≡◌, inl, inr, ℕ, ◌+◌, Bool, true, false, cond, Option, Some, None, List, [], ◌∷◌, ◌++◌, refl, sym, ap, ◌∙◌}
 use Rattle.ec_attr.specs.declared.geometry.Geometry.{Geometry}
 use Rattle.ec_brick.proofs.Steps.{row_keeps}
 use Rattle.ec_brick.specs.Rows.{row_of}
 use Rattle.ec_brick.specs.State.{State}
 use Rattle.ec_brick.specs.Step.{Before, Failing, Fine, Within, executed as executed_at, quiet, step, work}
-use Rattle.ec_conduct.specs.Conduct.{is_release}
 use Rattle.ec_history.proofs.Runs.{rest}
-use Rattle.ec_history.specs.IsRun.{IsRun, MayExecute}
 use Rattle.ec_history.specs.Run.{Net, after, executed, executed_by, failing, fresh, heard, heard_by, out_of, run}
-use Rattle.ec_history.specs.Script.{Step, entries_of}
+use Rattle.ec_history.specs.Script.{entries_of}
 use Rattle.ec_history.specs.Story.{Story, began, executes, is_done, makes_a_child, outcome, request_of, said_by, story, told, told_executed}
-use Rattle.ec_store.specs.Records.{Records}
 use Rattle.ec_wire.specs.declared.entry.Entry.{Entry}
 use Rattle.ec_wire.specs.declared.entry.Entry.TheVariants.{Called, Sent, Executed, Heard, Lost, GivenUp, Answered}
 use Rattle.ec_wire.specs.declared.message.Body.{Body}
@@ -20,10 +17,9 @@ use Rattle.ec_wire.specs.declared.message.Message.{Message}
 use Rattle.ec_wire.specs.declared.op.Op.{Op}
 use Rattle.ec_wire.specs.declared.request.Request.{Request}
 use Rattle.ec_wire.specs.declared.request.Request.TheVariants.{Ask, Release, Query, ReadChunks, NameGet, NamesAfter, NameSet, WriteChunks, GfidsAfter}
-use Rattle.ec_law_settled.specs.Calm.{AllSend, AsksOnce, IsCalmEntry}
-use Rattle.ec_law_settled.specs.Laws.{GoesCalmly, OfEverySettledCall, SettledLaws}
-use Rattle.ec_law_settled.specs.Settled.{IsSettledCall}
-use Rattle.ec_law_settled.specs.Unchanged.{ExecutesOwn, FlatsStay, IsOwnRequest, NoneAlters, RecordsStay, UnchangedLaws, alters, body_alters, entry_alters, message_alters}
+use Rattle.ec_law_settled.specs.Calm.{IsCalmEntry}
+use Rattle.ec_law_settled.specs.Laws.{GoesCalmly, OfEverySettledCall}
+use Rattle.ec_law_settled.specs.Unchanged.{FlatsStay, NoneAlters, RecordsStay, alters, body_alters, entry_alters, message_alters}
 use Rattle.ec_law_settled.proofs.Places.{put_at}
 
 -- ## A brick

@@ -77,9 +77,11 @@ module _ (x : Ctx) (given : Given) (c : Account) (f : Asks) (d e : Account) (isi
       by (Alike (Some child)) h w = absurd (go_say q (Exists child) w)
       by (Alike None) h w =
           let v = go_when (is_within group.head) (Votes (Pre group)) q (Limit group.head.version.content) w in
-          subst (λ (z : MakeStage). Woken given z d e) (sym v.1)
-          (members_someone given group (λ y. ballot_request (subject d.given.op) (size_after d.given.op group.head.size) (attr_after d.given.op) (Pre group)) d dg v.0
-          (named_count given group c f d dg here.0 r idle none all (alike_enough given (windows given d) None h)), tt)
+          subst (λ (z : MakeStage). Woken given z d e) (sym v.1) (
+            members_someone given group (λ y. ballot_request (subject d.given.op) (size_after d.given.op group.head.size) (attr_after d.given.op) (Pre group)) d dg v.0
+                (named_count given group c f d dg here.0 r idle none all (alike_enough given (windows given d) None h)),
+            tt,
+          )
 
   makes_someone : (group : Group) (q : MakeStage) → InMake (Makes group) c f → MakeFollows (Makes group) d (Go q) → Woken given q d e
   makes_someone group q l follows =

@@ -96,9 +96,12 @@ module _ (given : Given) (group : Group) (m : ℕ) (reading : Reading) (d e : Ac
       let w = chosen reading.start (count_wanted (quorum_of given) reading (places_of d (subject given.op)) (replied d (subject given.op))) (is_left reading (places_of d (subject given.op))) y h.start lt wanted (left y t s) in
       let l = (and_parts (is_left reading (places_of d (subject given.op)) w.0) (nat_lt (count_before reading.start (is_left reading (places_of d (subject given.op))) w.0) (count_wanted (quorum_of given) reading (places_of d (subject given.op)) (replied d (subject given.op)))) w.2).0 in
       let among = (and_parts (is_in reading.among w.0) (not (is_tried reading.first (places_of d (subject given.op) w.0))) (and_parts (is_in reading.among w.0 && not (is_tried reading.first (places_of d (subject given.op) w.0))) (not (places_of d (subject given.op) w.0).failed) l).0).0 in
-      let lt' : w.0 < bricks_of given = below w.0 w.1 among in
-      (w.0, lt', asked_where (is_chosen (quorum_of given) reading (places_of d (subject given.op)) (replied d (subject given.op)) w.0) (nat_lt w.0 (bricks_of given)) (under (at d (subject given.op) w.0).inode (chunks_of (subject given.op) reading)) w.2 (less w.0 (bricks_of given) lt')
-          (held_fetched (at d (subject given.op) w.0).inode (chunks_of (subject given.op) reading) (held w.0 w.1 among)))
+      let lt' : w.0 < bricks_of given = below w.0 w.1 among in (
+        w.0,
+        lt',
+        asked_where (is_chosen (quorum_of given) reading (places_of d (subject given.op)) (replied d (subject given.op)) w.0) (nat_lt w.0 (bricks_of given)) (under (at d (subject given.op) w.0).inode (chunks_of (subject given.op) reading)) w.2 (less w.0 (bricks_of given) lt')
+            (held_fetched (at d (subject given.op) w.0).inode (chunks_of (subject given.op) reading) (held w.0 w.1 among)),
+      )
       )
 
 -- ## A stripe was read

@@ -27,3 +27,5 @@ pub mod WakingWrite
 pub mod WakingTruncate
 pub mod Unbooked
 pub mod Answered
+pub mod Looking
+pub mod LookingWorlds

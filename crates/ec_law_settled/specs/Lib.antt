@@ -6,3 +6,4 @@ pub mod Laws
 pub mod Worlds
 pub mod Answered
 pub mod Unchanged
+pub mod Looking

@@ -1,7 +1,7 @@
 // Calls that are settled: made while nothing else is under way, and followed by `settle`.
 //
 // `Settled` says which calls these are, and `Serving` which bricks can serve them and what they are to be answered then. `Calm` says
-// what comes of each entry of such a call, and `Laws` what follows of all; `Unchanged` says what nothing changes meanwhile. `Asks` says how often a call
+// what comes of each entry of such a call, and `Laws` what follows of all; `Unchanged` says what nothing changes meanwhile, `Looking` which calls change nothing. `Asks` says how often a call
 // asks a brick for a lock, `Worlds` and `Answered` what follows of the log of a world. Nothing of it runs.
 #![tactic(auto)]
 
@@ -9,6 +9,7 @@ ghost use Rattle.ec_clients.specs.Calls.{tabled};
 ghost use Rattle.ec_law_settled.specs.Answered.{AnsweredInEveryWorld, CallWaitLaws};
 ghost use Rattle.ec_law_settled.specs.Asks.{CallAskLaws};
 ghost use Rattle.ec_law_settled.specs.Laws.{OfEverySettledCall, SettledLaws};
+ghost use Rattle.ec_law_settled.specs.Looking.{CallLookLaws, LooksAlterNothing};
 ghost use Rattle.ec_law_settled.specs.Unchanged.{UnchangedLaws};
 ghost use Rattle.ec_law_settled.specs.Worlds.{OfEveryWorldsCall};
 
@@ -51,6 +52,20 @@ pub fn world_unchanged_laws()
 {
     unchanged_laws();
     call_ask_laws();
+}
+
+/// A stat, getattr, lookup, read or readdir sends nothing that may alter records. It does nothing when it runs.
+pub fn call_look_laws()
+    ensures { CallLookLaws (⟦<AnyCall as Conduct>⟧.stands) }
+{}
+
+/// In the log of every world, among the entries of a settled call that is one of these, no request is executed that may alter records: so
+/// each brick has the records that it had, and the flat files are as they were. It does nothing when it runs.
+pub fn world_look_laws()
+    ensures { LooksAlterNothing (⟦<AnyCall as Conduct>⟧.stands) (tabled (⟦<AnyCall as Conduct>⟧.begins) (⟦<AnyCall as Conduct>⟧.goes)) }
+{
+    call_look_laws();
+    world_unchanged_laws();
 }
 
 /// As long as a built call has no answer, it waits for a brick. It does nothing when it runs.

@@ -1,0 +1,12 @@
+pub mod Tables
+pub mod Lasting
+pub mod Granted
+pub mod Changing
+pub mod Entries
+pub mod Making
+pub mod Walking
+pub mod Storying
+pub mod Standing
+pub mod Volumes
+pub mod Held
+pub mod Worlds

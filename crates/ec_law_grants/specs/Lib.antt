@@ -1,0 +1,3 @@
+pub mod Alters
+pub mod Became
+pub mod Laws

@@ -1,4 +1,4 @@
--- A setattr and a readdir wait for a brick in each stage.
+-- A setattr waits for a brick in each stage.
 use Rattle.std.proofs.Common.{◌≡◌, nat_le, cond, refl, sym, ◌∙◌, subst}
 use Rattle.ec_answers.specs.declared.grouped.Grouped.{Grouped}
 use Rattle.ec_answers.specs.declared.grouped.Grouped.TheVariants.{Group as Found, Gone, Fewer}

@@ -1,0 +1,9 @@
+pub mod Quiet
+pub mod OnlyReads
+pub mod Changing
+pub mod Bytes
+pub mod Order
+pub mod Listing
+pub mod Contents
+pub mod Names
+pub mod Calls
